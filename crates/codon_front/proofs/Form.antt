@@ -4,6 +4,7 @@ pub mod Numbered
 pub mod Pieces
 pub mod Programs
 pub mod Readings
+pub mod Shapes
 pub mod Splits
 pub mod Steps
 pub mod Emission

@@ -12,13 +12,14 @@ use Rattle.code_module.specs.declared.instr.Instr.{Instr}
 use Rattle.code_module.specs.declared.instr.Instr.TheVariants as instr
 use Rattle.code_module.specs.declared.instr.BinaryOp.{BinaryOp}
 use Rattle.code_module.specs.declared.instr.BinaryOp.TheVariants.{Add, Sub, Mul}
-use Rattle.code_module.specs.Machine.{State, End, Done, run_from, start}
+use Rattle.code_module.specs.Machine.{State, End, Done, run_from, run_of, entry_code, start}
+use Rattle.code_module.specs.declared.module.Module.{Module}
 use Rattle.codon_front.specs.Lines.Sum.{Sum, Number, Name, Group, Binary, IsKnown, worth, result_of}
 use Rattle.codon_front.specs.Lines.Names.{is_numbered, number_of, AreNumbers, Numbers}
 use Rattle.codon_front.specs.Lines.Program.{Line, Blank, Assign, Print, IsSum, HasSum, known_after, known_after_all, no_name}
 use Rattle.codon_front.specs.Lines.Meaning.{values_after, printed_by, printed_from, no_values, meaning_of}
 use Rattle.codon_front.specs.Lines.Code.{text_table, sum_code, print_code, end_code}
-use Rattle.codon_front.specs.Lines.Emitted.{EmitsLine}
+use Rattle.codon_front.specs.Lines.Emitted.{EmitsLine, EmitsText, IsEntry}
 
 -- each name that has a number has its value in that global
 abbrev Keeps : (List ℕ → Option ℕ) → (List ℕ → ℤ) → List Value → Type 0
@@ -104,6 +105,16 @@ emitted_none numbers none = record {
   };
 }
 
+-- where no name has a number, each number is one name's
+pub valid_none : (numbers : List ℕ → Option ℕ) (count : ℕ) → ((n : List ℕ) → numbers n ≡ None) → AreNumbers numbers count
+valid_none numbers count none = record {
+  below = λ n k e. absurd (some_none k (numbers n) (none n) e);
+  apart = λ m n k e f. absurd (some_none k (numbers n) (none n) f);
+}
+
+pub emitted_start : (numbers : List ℕ → Option ℕ) (code : List Instr) (count : ℕ) → ((n : List ℕ) → numbers n ≡ None) → code ≡ [] → count ≡ 0 → IsEmitted numbers code [] count
+emitted_start numbers code count none e z = rw (e, z) (emitted_none numbers none)
+
 -- ---- one more line
 
 run_print : (values : List ℕ → ℤ) (globals : List Value) (out : List ℕ) (sum : Sum) (rest : List Instr) → run_from text_table (print_code ++ rest) (at_state (value.Int (worth values sum) ∷ []) globals out) ≡ run_from text_table rest (at_state [] globals (out ++ printed_by values (Print sum)))
@@ -120,10 +131,16 @@ keeps_same : (old numbers : List ℕ → Option ℕ) (values : List ℕ → ℤ)
 keeps_same old numbers values globals same keeps = λ n k e. keeps n k (sym (same n) ∙ e)
 
 slice_get-set_same : (xs : List Value) (k : ℕ) (v : Value) → k < length xs → slice_get (slice_set xs k v) k ≡ Some v
-slice_get-set_same xs k v h = grind (arith, common_steps)
+slice_get-set_same [] k v h = absurd (omega arith)
+slice_get-set_same (x ∷ xs) zero v h = refl
+slice_get-set_same (x ∷ xs) (suc k) v h = slice_get-set_same xs k v (omega arith)
 
 slice_get-set_other : (xs : List Value) (j k : ℕ) (v : Value) → j ≢ k → slice_get (slice_set xs k v) j ≡ slice_get xs j
-slice_get-set_other xs j k v h = grind (arith, common_steps)
+slice_get-set_other [] j k v h = refl
+slice_get-set_other (x ∷ xs) zero zero v h = absurd (h refl)
+slice_get-set_other (x ∷ xs) zero (suc k) v h = refl
+slice_get-set_other (x ∷ xs) (suc j) zero v h = refl
+slice_get-set_other (x ∷ xs) (suc j) (suc k) v h = slice_get-set_other xs j k v (λ e. h (ap (λ n. suc n) e))
 
 length-slice_set : (xs : List Value) (k : ℕ) (v : Value) → length (slice_set xs k v) ≡ length xs
 length-slice_set xs k v = grind (arith, common_steps)
@@ -206,3 +223,19 @@ emitted_more line old numbers old_code code lines old_count count emits sum vali
 -- the whole code ends the run with what the lines mean
 pub emitted_runs : (numbers : List ℕ → Option ℕ) (code : List Instr) (lines : List Line) (count : ℕ) → IsEmitted numbers code lines count → run_from text_table (code ++ end_code) (start count) ≡ Done (meaning_of lines)
 emitted_runs numbers code lines count e = (e.runs count (omega arith)).leads end_code
+
+-- the known names of a line are those that have a number
+pub line_known : (numbers : List ℕ → Option ℕ) (code : List Instr) (lines : List Line) (count : ℕ) → IsEmitted numbers code lines count → is_numbered numbers ≡ known_after_all no_name lines
+line_known numbers code lines count e = λ i n. e.known n i
+
+pub emitted_text : (text : List ℕ) (old numbers : List ℕ → Option ℕ) (old_code code : List Instr) (lines : List Line) (old_count count : ℕ) → (t : EmitsText text old numbers old_code code) → AreNumbers numbers count → old_count ≤ count → IsEmitted old old_code lines old_count → IsEmitted numbers code (lines ++ t.line ∷ []) count
+emitted_text text old numbers old_code code lines old_count count t valid more e =
+    emitted_more t.line old numbers old_code code lines old_count count t.emits t.is_line.sum valid more e
+
+-- the whole module prints what the lines mean
+pub module_runs : (m : Module) (numbers : List ℕ → Option ℕ) (code : List Instr) (lines : List Line) (count : ℕ) → m.texts ≡ text_table → m.globals ≡ count → IsEntry m.functions (code ++ end_code) → IsEmitted numbers code lines count → run_of m ≡ Done (meaning_of lines)
+module_runs m numbers code lines count t g f e =
+    ap (λ x. run_from x (entry_code m.functions) (start m.globals)) t
+    ∙ ap (λ x. run_from text_table x (start m.globals)) f
+    ∙ ap (λ x. run_from text_table (code ++ end_code) (start x)) g
+    ∙ emitted_runs numbers code lines count e

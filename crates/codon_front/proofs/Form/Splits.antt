@@ -1,9 +1,10 @@
 -- The first line of a text, and the lines that were read so far.
-use Rattle.std.proofs.Common.{◌≡◌, ℕ, ◌+◌, ◌-◌, ◌<◌, ◌≤◌, List, [], ◌∷◌, ◌++◌, Option, Some, None, MatchOption, Bor, Bool, true, false, nat_eq, length, take, drop, refl, ap, subst, sym, ◌∙◌, arith, append_assoc, length-drop}
+use Rattle.std.proofs.Common.{◌≡◌, ℕ, ◌+◌, ◌-◌, ◌<◌, ◌≤◌, List, [], ◌∷◌, ◌++◌, Option, Some, None, MatchOption, Bor, Bool, true, false, ◌&&◌, nat_eq, nat_le, length, take, drop, refl, ap, subst, sym, ◌∙◌, arith, append_assoc, length-drop}
 use Rattle.std.specs.List.{position_or_len, slice_split, onto_first}
 use Rattle.std.proofs.lemmas.List.Splits.{slice_split_first}
+use Rattle.std.proofs.lemmas.Bool.Decides.{nat_tests}
 use Rattle.codon_front.proofs.Fronts.{take_whole}
-use Rattle.codon_front.specs.Lines.Program.{Line, lines_of, IsLine, AreLines, IsFirstBadLine, known_after, known_after_all, no_name}
+use Rattle.codon_front.specs.Lines.Program.{Line, lines_of, has_line_form, IsLine, AreLines, IsFirstBadLine, known_after, known_after_all, no_name}
 
 abbrev IsOneLine : List ℕ → Type 0
 IsOneLine xs = length xs ≤ position_or_len (λ c. nat_eq c 10) xs → slice_split (λ c. nat_eq c 10) xs ≡ xs ∷ []
@@ -63,3 +64,13 @@ first_bad text rest line more before lines number e m a n bad =
       place = n;
       not_line = bad;
     }
+
+and_first : (a b : Bool) → (a && b) ≡ true → a ≡ true
+and_first true b e = refl
+and_first false b e = e
+
+-- a line of the form is short
+pub form_is_short : (line : List ℕ) → has_line_form line ≡ true → length line ≤ 150
+form_is_short line e =
+    let small : nat_le (length line) 150 ≡ true = and_first _ _ (and_first _ _ e) in
+    grind (arith, nat_tests)

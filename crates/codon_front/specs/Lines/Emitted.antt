@@ -1,12 +1,12 @@
 -- What is emitted for a line, and what a module of lines does.
-use Rattle.std.specs.Prelude.{◌≡◌, ℕ, ◌∷◌, [], ◌++◌, ◌<◌, ◌≤◌, List, Option, length, drop}
+use Rattle.std.specs.Prelude.{◌≡◌, ℕ, ◌∷◌, [], ◌++◌, List, Option, Some, None, Bool, true, false, drop}
 use Rattle.code_module.specs.declared.instr.Instr.{Instr}
 use Rattle.code_module.specs.declared.instr.Instr.TheVariants.{SetG}
 use Rattle.code_module.specs.declared.module.Module.{Module}
 use Rattle.code_module.specs.declared.module.Function.{Function}
 use Rattle.code_module.specs.Machine.{run_of, entry_code, Done}
 use Rattle.codon_front.specs.declared.lines.token.Token.{Token}
-use Rattle.codon_front.specs.declared.lines.token.Token.TheVariants.{Close}
+use Rattle.codon_front.specs.declared.lines.token.Token.TheVariants as token
 use Rattle.codon_front.specs.declared.lines.compiler.SourceFault.{SourceFault}
 use Rattle.codon_front.specs.declared.lines.compiler.SourceFault.TheVariants as fault
 use Rattle.codon_front.specs.Lines.Sum.{Sum, sum_tokens}
@@ -15,10 +15,20 @@ use Rattle.codon_front.specs.Lines.Names.{Numbers, is_numbered}
 use Rattle.codon_front.specs.Lines.Code.{sum_code, print_code}
 use Rattle.codon_front.specs.Lines.Meaning.{meaning_of}
 
+-- tokens that begin as a print does
+abbrev pub is_print : List Token → Bool
+is_print (token.Print ∷ token.Open ∷ ts) = true
+is_print _ = false
+
+-- the name of tokens that begin as an assignment does
+abbrev pub assigned_in : List Token → Option (List ℕ)
+assigned_in (token.Name n ∷ token.Equals ∷ ts) = Some n
+assigned_in _ = None
+
 -- after the sum of a line nothing follows, or its closing bracket
 abbrev pub IsEndOfSum : List Token → Type 0
 IsEndOfSum [] = Unit {0}
-IsEndOfSum (Close ∷ ts) = Unit {0}
+IsEndOfSum (token.Close ∷ ts) = Unit {0}
 IsEndOfSum _ = ⊥
 
 -- a sum stands between two places of the tokens, and its code was written

@@ -1,13 +1,14 @@
-ghost use Rattle.std.specs.Prelude.{◌≡◌, ◌≤◌, ◌<◌, ◌++◌, ◌∷◌, [], IfOk, OnOk, IfErr, MatchBool, length, drop};
-ghost use Rattle.code_module.specs.Machine.{Done};
+ghost use Rattle.std.specs.Prelude.{◌≡◌, ◌≤◌, ◌++◌, Some, IsTrue, IfOk, IfErr, MatchBool, length, drop};
+ghost use Rattle.std.specs.Option.{option_map};
 ghost use Rattle.codon_front.specs.Lines.Program.{has_line_form};
 ghost use Rattle.codon_front.specs.Lines.Names.{number_in, AreNumbers};
-ghost use Rattle.codon_front.specs.Lines.Code.{text_table, print_code, end_code};
-ghost use Rattle.codon_front.specs.Lines.Emitted.{IsEndOfSum, EmitsSum, HasNoSum, EmitsTokens, AreNoLine, EmitsText, IsNoLine, Compiles, IsSourceFaultOf, IsEntry};
+ghost use Rattle.codon_front.specs.Lines.Code.{text_table, end_code};
+ghost use Rattle.codon_front.specs.Lines.Emitted.{is_print, assigned_in, IsEndOfSum, EmitsSum, HasNoSum, EmitsTokens, AreNoLine, EmitsText, IsNoLine, Compiles, IsSourceFaultOf, IsEntry};
 
+use crate::lines::name::Name;
 use crate::lines::names::Names;
 use crate::lines::split::first_line;
-use crate::lines::sum::emit_sum;
+use crate::lines::sum::{emit_sum, is_close};
 use crate::lines::token::{Token, tokens};
 use code_module::{Constant, Function, FunctionKind, Instr, Module, Texts};
 use codon_base::{Memory, Text};
@@ -136,38 +137,92 @@ fn emit_tokens(alloc: Global, emitter: &mut Emitter, tokens: &[Token]) -> Result
     ensures valid { AreNumbers (number_in emitter.new.names) emitter.new.names.count }
     ensures more { emitter.old.names.count ≤ emitter.new.names.count }
 {
-    match tokens {
-        [] => Ok(true),
-        [Token::Print, Token::Open, .., Token::Close] => {
-            if !emit_sum_to(emitter, tokens, tokens.len() - 1)? {
-                return Ok(false);
-            }
-            emitter.code.push(Instr::Text(SEPARATOR))?;
-            emitter.code.push(Instr::Text(LINE_END))?;
-            emitter.code.push(Instr::Print(1))?;
-            Ok(true)
-        }
-        [Token::Name(name), Token::Equals, ..] => {
-            if !emit_sum_to(emitter, tokens, tokens.len())? {
-                return Ok(false);
-            }
-            let number = emitter.names.number_or_next(alloc, name.as_str())?;
-            emitter.code.push(Instr::SetG(number))?;
-            Ok(true)
-        }
-        _ => Ok(false),
+    if tokens.is_empty() {
+        return Ok(true);
     }
+    if is_print(tokens) {
+        return emit_print(emitter, tokens);
+    }
+    match assigned_name(tokens) {
+        Some(name) => emit_assignment(alloc, emitter, name, tokens),
+        None => Ok(false),
+    }
+}
+
+/// Whether tokens begin as a print does.
+fn is_print(tokens: &[Token]) -> bool
+    ensures { result ≡ is_print tokens.now }
+{
+    match tokens {
+        [Token::Print, Token::Open, ..] => true,
+        _ => false,
+    }
+}
+
+/// The name that tokens assign, if they begin as an assignment does.
+fn assigned_name(tokens: &[Token]) -> Option<&Name>
+    ensures { option_map (λ name. name.now) result ≡ assigned_in tokens.now }
+{
+    match tokens {
+        [Token::Name(name), Token::Equals, ..] => Some(name),
+        _ => None,
+    }
+}
+
+/// Writes the code of a print, and tells whether these tokens are those of one.
+fn emit_print(emitter: &mut Emitter, tokens: &[Token]) -> Result<bool, Memory>
+    requires begins { IsTrue (is_print tokens.now) }
+    requires few { length tokens.now ≤ 150 }
+    ensures line { IfOk result (λ is_line. MatchBool is_line (EmitsTokens tokens.now (number_in emitter.old.names) (number_in emitter.new.names) emitter.old.code.items emitter.new.code.items) (AreNoLine tokens.now (number_in emitter.old.names))) }
+    ensures names { emitter.new.names ≡ emitter.old.names }
+{
+    let last = tokens.len() - 1;
+    if !is_close(tokens, last) {
+        return Ok(false);
+    }
+    if !emit_sum_to(emitter, tokens, last)? {
+        return Ok(false);
+    }
+    emitter.code.push(Instr::Text(SEPARATOR))?;
+    emitter.code.push(Instr::Text(LINE_END))?;
+    emitter.code.push(Instr::Print(1))?;
+    Ok(true)
+}
+
+/// Writes the code of an assignment to a name, and tells whether these tokens are those of one.
+fn emit_assignment(
+    alloc: Global,
+    emitter: &mut Emitter,
+    name: &Name,
+    tokens: &[Token],
+) -> Result<bool, Memory>
+    requires valid { AreNumbers (number_in emitter.old.names) emitter.old.names.count }
+    requires begins { assigned_in tokens.now ≡ Some name.now }
+    requires few { length tokens.now ≤ 150 }
+    ensures line { IfOk result (λ is_line. MatchBool is_line (EmitsTokens tokens.now (number_in emitter.old.names) (number_in emitter.new.names) emitter.old.code.items emitter.new.code.items) (AreNoLine tokens.now (number_in emitter.old.names))) }
+    ensures valid { AreNumbers (number_in emitter.new.names) emitter.new.names.count }
+    ensures more { emitter.old.names.count ≤ emitter.new.names.count }
+{
+    if !emit_sum_to(emitter, tokens, tokens.len())? {
+        return Ok(false);
+    }
+    let number = emitter.names.number_or_next(alloc, name.as_str())?;
+    emitter.code.push(Instr::SetG(number))?;
+    Ok(true)
 }
 
 /// Writes the code of the sum of a line, and tells whether one stands from its place up to the last.
 fn emit_sum_to(emitter: &mut Emitter, tokens: &[Token], last: usize) -> Result<bool, Memory>
+    requires many { 2 ≤ length tokens.now }
     requires few { length tokens.now ≤ 150 }
-    requires begins { 2 ≤ last }
     requires within { last ≤ length tokens.now }
     requires ends { IsEndOfSum (drop last tokens.now) }
     ensures sum { IfOk result (λ is_sum. MatchBool is_sum (EmitsSum (number_in emitter.old.names) tokens.now 2 last emitter.old.code.items emitter.new.code.items) (HasNoSum (number_in emitter.old.names) tokens.now 2 last)) }
     ensures names { emitter.new.names ≡ emitter.old.names }
 {
-    let end = emit_sum(&mut emitter.code, &emitter.names, tokens, SUM_PLACE, STEPS)?;
-    Ok(end == Some(last))
+    let code = &mut emitter.code;
+    let Some(end) = emit_sum(code, &emitter.names, tokens, SUM_PLACE, STEPS)? else {
+        return Ok(false);
+    };
+    Ok(end == last)
 }

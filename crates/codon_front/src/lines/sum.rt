@@ -115,7 +115,8 @@ fn operand_at(names: &Names, tokens: &[Token], at: usize) -> Operand
     }
 }
 
-fn is_close(tokens: &[Token], at: usize) -> bool
+/// Whether a closing bracket stands at this place.
+pub fn is_close(tokens: &[Token], at: usize) -> bool
     requires { at ≤ length tokens.now }
     ensures { result ≡ closes (drop at tokens.now) }
 {
