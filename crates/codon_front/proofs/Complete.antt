@@ -19,28 +19,37 @@ abbrev Accepts : Told → Type 0
 Accepts told = (text : List ℕ) × IsSmallText told text × (lines : List Line) × IsSource text lines
 
 -- only a file that is accepted is done, only one that is refused is refused, and only one that is not there is a file fault
-done_due : (told : Told) (due : Status) → IsDueFor told due → Accepts told → due ≡ status.Done
-done_due Absent status.File h a = absurd a.1.0
-done_due (Held text) status.Done h a = refl
-done_due (Held text) status.Refused (inl long) a =
+held_done : (text : List ℕ) (due : Status) → IsDueFor (Held text) due → Accepts (Held text) → due ≡ status.Done
+held_done text status.Done h a = refl
+held_done text status.Refused (inl long) a =
     let same : a.0 ≡ text = a.1.0 in
     let short : length a.0 ≤ source_limit = a.1.1 in
     absurd (omega (arith, ap length same, long, short))
-done_due (Held text) status.Refused (inr bad) a =
-    absurd (no_bad_line text a.2.0 bad.1.0 (subst (λ t. IsSource t a.2.0) a.1.0 a.2.1) bad.1.1)
-done_due (Held text) _ h a = absurd h
+held_done text status.Refused (inr bad) a =
+    absurd (no_bad_line text a.2 bad.1.0 (subst (λ t. IsSource t a.2) a.1.0 a.3) bad.1.1)
+held_done text _ h a = absurd h
+
+done_due : (told : Told) (due : Status) → IsDueFor told due → Accepts told → due ≡ status.Done
+done_due (Held text) due h a = held_done text due h a
+done_due Absent due h a = absurd a.1.0
 done_due Untold due h a = absurd h
 
-refused_due : (told : Told) (due : Status) → IsDueFor told due → Refuses told → due ≡ status.Refused
-refused_due Absent due h (inl long) = absurd long
-refused_due Absent due h (inr bad) = absurd bad.1.0
-refused_due (Held text) status.Refused h r = refl
-refused_due (Held text) status.Done h (inl long) =
+held_refused : (text : List ℕ) (due : Status) → IsDueFor (Held text) due → Refuses (Held text) → due ≡ status.Refused
+held_refused text status.Refused h r = refl
+held_refused text status.Done h (inl long) =
     let short : length text ≤ source_limit = h.0 in
     absurd (omega (arith, long, short))
-refused_due (Held text) status.Done h (inr bad) =
-    absurd (no_bad_line text h.1.0 bad.2.0 h.1.1 (subst (λ t. IsFirstBadLine t bad.2.0) bad.1.0 bad.2.1))
-refused_due (Held text) _ h r = absurd h
+held_refused text status.Done h (inr bad) =
+    absurd (no_bad_line text h.1.0 bad.2 h.1.1 (subst (λ t. IsFirstBadLine t bad.2) bad.1.0 bad.3))
+held_refused text _ h r = absurd h
+
+none_refused : Refuses Absent → ⊥
+none_refused (inl long) = long
+none_refused (inr bad) = bad.1.0
+
+refused_due : (told : Told) (due : Status) → IsDueFor told due → Refuses told → due ≡ status.Refused
+refused_due (Held text) due h r = held_refused text due h r
+refused_due Absent due h r = absurd (none_refused r)
 refused_due Untold due h r = absurd h
 
 absent_due : (due : Status) → IsDueFor Absent due → due ≡ status.File
@@ -55,7 +64,7 @@ named file other e = cc
 accepts : (file : List ℕ) (holds : List ℕ → Told) (lines : List Line) → IsProgram (Some file) holds lines → Accepts (holds file)
 accepts file holds lines p =
     let same : p.input.file ≡ file = named file p.input.file p.input.named in
-    (p.text, (subst (λ f. MayHold (holds f) p.text) same p.input.held, p.input.short), (lines, p.source))
+    (p.text, (subst (λ f. MayHold (holds f) p.text) same p.input.held, p.input.short), lines, p.source)
 
 refuses : (file line : List ℕ) (holds : List ℕ → Told) → IsRefusal (Some file) holds line → Refuses (holds file)
 refuses file line holds (inl long) =
@@ -63,7 +72,7 @@ refuses file line holds (inl long) =
 refuses file line holds (inr bad) =
     let input = bad.1.1 in
     let same : input.file ≡ file = named file input.file input.named in
-    inr (bad.1.0, (subst (λ f. MayHold (holds f) bad.1.0) same input.held, input.short), (bad.0, bad.1.2))
+    inr (bad.1.0, (subst (λ f. MayHold (holds f) bad.1.0) same input.held, input.short), bad.0, bad.1.2)
 
 no_program : (holds : List ℕ → Told) (lines : List Line) → IsProgram None holds lines → ⊥
 no_program holds lines p = let e = p.input.named in cc

@@ -5,5 +5,4 @@ ghost use Rattle.codon_front.specs.Lines.Program.{Line, IsSource, IsFirstBadLine
 pub fn a_text_has_one_program()
     ensures program { (text : List ℕ) (these those : List Line) → IsSource text these → IsSource text those → these ≡ those }
     ensures accepted { (text : List ℕ) (lines : List Line) (number : ℕ) → IsSource text lines → IsFirstBadLine text number → ⊥ }
-{
-}
+{}

@@ -32,10 +32,10 @@ number_step numbers ts at steps f least old mid new z e d m None g = number_read
 number_step numbers ts at steps f least old mid new z e d m (Some end) g =
     let r = g (Number z) old m in
     record {
-        sum = r.sum;
-        found = number_reads numbers ts at steps f least z e d ∙ r.found;
-        within = r.within;
-        written = r.written
+      sum = r.sum;
+      found = number_reads numbers ts at steps f least z e d ∙ r.found;
+      within = r.within;
+      written = r.written;
     }
 
 name_reads : (numbers : List ℕ → Option ℕ) (ts : List Token) (at steps f least g : ℕ) (n : List ℕ) → steps ≡ suc f → drop at ts ≡ token.Name n ∷ drop (at + 1) ts → numbers n ≡ Some g → read_sum (is_numbered numbers) steps (Begin least) (drop at ts) ≡ read_sum (is_numbered numbers) f (After least (Name n)) (drop (at + 1) ts)
@@ -53,10 +53,10 @@ name_step numbers ts at steps f least g old mid new n e d k m None go =
 name_step numbers ts at steps f least g old mid new n e d k m (Some end) go =
     let r = go (Name n) old (name_code numbers old mid g n k m) in
     record {
-        sum = r.sum;
-        found = name_reads numbers ts at steps f least g n e d k ∙ r.found;
-        within = r.within;
-        written = r.written
+      sum = r.sum;
+      found = name_reads numbers ts at steps f least g n e d k ∙ r.found;
+      within = r.within;
+      written = r.written;
     }
 
 closed : (ts : List Token) (end : ℕ) (go : List Token → Outcome) → closes (drop end ts) ≡ true → then_close (drop end ts) go ≡ go (drop (end + 1) ts)
@@ -75,10 +75,10 @@ group_step numbers ts at steps f least end old mid new e d inner c None g =
 group_step numbers ts at steps f least end old mid new e d inner c (Some last) g =
     let r = g (Group inner.sum) old inner.written in
     record {
-        sum = r.sum;
-        found = group_reads numbers ts at steps f least end inner.sum e d inner.found c ∙ r.found;
-        within = r.within;
-        written = r.written
+      sum = r.sum;
+      found = group_reads numbers ts at steps f least end inner.sum e d inner.found c ∙ r.found;
+      within = r.within;
+      written = r.written;
     }
 
 join_reads : (numbers : List ℕ → Option ℕ) (ts : List Token) (at steps f least : ℕ) (op : BinaryOp) (left : Sum) → steps ≡ suc f → operator_in (drop at ts) ≡ Some op → nat_lt (level_of op) least ≡ false → read_sum (is_numbered numbers) steps (After least left) (drop at ts) ≡ then_sum (read_sum (is_numbered numbers) f (Begin (level_of op + 1)) (drop (at + 1) ts)) (λ right rest. read_sum (is_numbered numbers) f (After least (Binary op left right)) rest)
@@ -108,10 +108,10 @@ join_step numbers ts at steps f least end op old mid pushed new e o l inner p No
     λ left. join_found numbers ts at steps f least end op left inner.sum e o l inner.found ∙ g (Binary op left inner.sum)
 join_step numbers ts at steps f least end op old mid pushed new e o l inner p (Some last) g =
     λ left front was.
-        let r = g (Binary op left inner.sum) front (joined_code numbers front old mid pushed op left inner.sum was inner.written p) in
-        record {
-            sum = r.sum;
-            found = join_found numbers ts at steps f least end op left inner.sum e o l inner.found ∙ r.found;
-            within = r.within;
-            written = r.written
-        }
+    let r = g (Binary op left inner.sum) front (joined_code numbers front old mid pushed op left inner.sum was inner.written p) in
+    record {
+      sum = r.sum;
+      found = join_found numbers ts at steps f least end op left inner.sum e o l inner.found ∙ r.found;
+      within = r.within;
+      written = r.written;
+    }

@@ -1,13 +1,13 @@
 ghost use Rattle.std.specs.Prelude.{◌≡◌, ◌≤◌, ◌++◌, replicate, IfOk, OnOk, OnErr, IfErr, Option, Some, slice_get};
 ghost use Rattle.std.specs.Option.{option_map};
 ghost use Rattle.outer_world.specs.Sink.{gained, GainsPrefix};
-ghost use Rattle.code_module.specs.Machine.{run_of, entry_code, out_of, row, pushed, line_of, separated, combined, printed, stored, fetched, returned, constant_of, result_of};
+ghost use Rattle.code_module.specs.Machine.{run_of, entry_code, out_of, row, pushed, line_of, separated, combined, printed, stored, fetched, returned, result_of};
 ghost use Rattle.codon_base.specs.Shown.{AppendsShown};
 ghost use Rattle.codon_base.specs.declared.value.Value.TheVariants.{Unset, Text};
 ghost use Rattle.codon_front.specs.Run.{LeadsBy, IsDone, IsRunStopOf};
 
 use crate::machine::stack::Stack;
-use code_module::{BinaryOp, Constant, Instr, Module, Texts};
+use code_module::{BinaryOp, Instr, Module, Texts};
 use codon_base::{Memory, Value, Values, push_shown, wrap_add, wrap_mul, wrap_sub};
 use outer_world::{Sink, SinkFault};
 use sqlite_items::Items;
@@ -103,7 +103,7 @@ fn step(alloc: Global, texts: &Texts, instr: Instr, machine: &mut Machine) -> Re
         }
         Instr::Text(index) => push_text(alloc, texts, index, machine),
         Instr::Const(constant) => {
-            machine.stack.push(value_of(constant))?;
+            machine.stack.push(constant.value())?;
             Ok(Flow::Goes)
         }
         Instr::GetG(index) => fetch(alloc, machine, index),
@@ -128,16 +128,6 @@ fn push_text(
             machine.stack.push(Value::Text(text.try_clone(alloc)?))?;
             Ok(Flow::Goes)
         }
-    }
-}
-
-fn value_of(constant: Constant) -> Value
-    ensures { result ≡ constant_of constant }
-{
-    match constant {
-        Constant::Unit => Value::Unit,
-        Constant::False => Value::Bool(false),
-        Constant::True => Value::Bool(true),
     }
 }
 

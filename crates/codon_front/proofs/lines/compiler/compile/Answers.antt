@@ -7,14 +7,14 @@ use Rattle.codon_front.proofs.lines.compiler.compile.Goals as goal
 
 pub lines-init : goal.lines-init
 lines-init c = (
-    [],
-    [],
-    refl,
-    tt,
-    omega arith,
-    omega arith,
-    valid_none (number_in c.new-2.result) c.new-2.result.count c.new-2.ensures.none,
-    emitted_start (number_in c.new-2.result) c.new.result.items c.new-2.result.count c.new-2.ensures.none c.new.ensures.items c.new-2.ensures.count,
+  [],
+  [],
+  refl,
+  tt,
+  omega arith,
+  omega arith,
+  valid_none (number_in c.new-2.result) c.new-2.result.count c.new-2.ensures.none,
+  emitted_start (number_in c.new-2.result) c.new.result.items c.new-2.result.count c.new-2.ensures.none c.new.ensures.items c.new-2.ensures.count,
 )
 
 pub lines-preserved : goal.lines-preserved

@@ -15,7 +15,7 @@ begin-returns-in_ok-push-in-Number t c =
     let at_number = rw c.in-Number.is at c.operand_at.ensures in
     let fits : SFits w64 c.in-Number.number = search rules in
     let pushed : c.push.new.self.items ≡ c.args.code.now.items ++ Int c.in-Number.number ∷ [] =
-        c.in_ok-push-in-Number.ensures.items ∙ ap (λ z. c.args.code.now.items ++ Int z ∷ []) (to_z-of_z w64 c.in-Number.number fits) in
+    c.in_ok-push-in-Number.ensures.items ∙ ap (λ z. c.args.code.now.items ++ Int z ∷ []) (to_z-of_z w64 c.in-Number.number fits) in
     IfOk-weaker c.go_on.result _ _ (λ x h. number_step (number_in c.args.names.now) c.args.tokens.now c.args.at c.args.steps (c.args.steps - 1) c.args.least c.args.code.now.items c.push.new.self.items c.go_on.new.code.items c.in-Number.number more at_number.0 pushed x h) c.go_on.ensures
 
 pub begin-returns-in_ok-push-in-Global : goal.begin-returns-in_ok-push-in-Global
