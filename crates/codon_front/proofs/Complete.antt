@@ -1,5 +1,5 @@
 -- Where nothing fails, the status is the one that is due, or want of memory: the causes of two statuses never stand together.
-use Rattle.std.proofs.Common.{◌≡◌, ◌⊎◌, ℕ, ◌<◌, ◌≤◌, List, Option, None, Some, length, subst, sym, refl, inl, inr, ◌∙◌, ap, arith}
+use Rattle.std.proofs.Common.{◌≡◌, ◌⊎◌, ℕ, ◌≤◌, List, Option, None, Some, length, subst, sym, refl, inl, inr, ◌∙◌, ap, arith}
 use Rattle.outer_world.specs.Count.{Rose}
 use Rattle.outer_world.specs.Files.{Told, Untold, Absent, Held, MayHold, IsLonger}
 use Rattle.outer_world.specs.declared.status.Status.{Status}

@@ -1,7 +1,7 @@
 -- What the report of a stop leaves on err.
 use Rattle.std.proofs.Common.{◌≡◌, ℕ, List, Option}
 use Rattle.outer_world.specs.Sink.{gained, GainsPrefix}
-use Rattle.codon_front.proofs.Fronts.{prefix_from_whole, front_from_whole, front_from_prefix, front_from_both}
+use Rattle.codon_front.proofs.Fronts.{prefix_from_whole, front_from_whole, front_from_prefix}
 use Rattle.codon_front.specs.Answer.{memory_line, sink_line}
 use Rattle.codon_front.specs.declared.report.Stop.{Stop}
 use Rattle.codon_front.specs.declared.report.Stop.TheVariants as stop

@@ -1,6 +1,6 @@
 -- The code of lines does what they mean. After each line the code so far runs to a state in which nothing is on the stack, each
 -- name's global holds its value, and what the lines mean was printed; the code of one more line goes on from there.
-use Rattle.std.proofs.Common.{◌≡◌, ◌≢◌, ℕ, zero, suc, ℤ, ◌+◌, ◌<◌, ◌≤◌, List, [], ◌∷◌, ◌++◌, Option, Some, None, Bool, true, false, IsTrue, is_some, unwrap_or, if◌then◌else◌, ◌||◌, nat_lt, slice_get, slice_set, replicate, length, refl, ap, sym, ◌∙◌, subst, arith, append-nil, append_assoc}
+use Rattle.std.proofs.Common.{◌≡◌, ◌≢◌, ℕ, zero, suc, ℤ, ◌<◌, ◌≤◌, List, [], ◌∷◌, ◌++◌, Option, Some, None, Bool, true, false, IsTrue, is_some, unwrap_or, if◌then◌else◌, ◌||◌, slice_get, slice_set, replicate, length, refl, ap, sym, ◌∙◌, arith, append-nil, append_assoc}
 use Rattle.std.proofs.lemmas.Bool.{lt-ltb}
 use Rattle.std.proofs.lemmas.Grind.{common_steps}
 use Rattle.codon_front.proofs.Form.Numbered.{bytes_eq-true, bytes_eq-apart, same_number}
@@ -12,11 +12,11 @@ use Rattle.code_module.specs.declared.instr.Instr.{Instr}
 use Rattle.code_module.specs.declared.instr.Instr.TheVariants as instr
 use Rattle.code_module.specs.declared.instr.BinaryOp.{BinaryOp}
 use Rattle.code_module.specs.declared.instr.BinaryOp.TheVariants.{Add, Sub, Mul}
-use Rattle.code_module.specs.Machine.{State, End, Done, run_from, run_of, entry_code, start}
+use Rattle.code_module.specs.Machine.{State, Done, run_from, run_of, entry_code, start}
 use Rattle.code_module.specs.declared.module.Module.{Module}
 use Rattle.codon_front.specs.Lines.Sum.{Sum, Number, Name, Group, Binary, IsKnown, worth, result_of}
-use Rattle.codon_front.specs.Lines.Names.{is_numbered, number_of, AreNumbers, Numbers}
-use Rattle.codon_front.specs.Lines.Program.{Line, Blank, Assign, Print, IsSum, HasSum, known_after, known_after_all, no_name}
+use Rattle.codon_front.specs.Lines.Names.{is_numbered, AreNumbers, Numbers}
+use Rattle.codon_front.specs.Lines.Program.{Line, Blank, Assign, Print, HasSum, known_after, known_after_all, no_name}
 use Rattle.codon_front.specs.Lines.Meaning.{values_after, printed_by, printed_from, no_values, meaning_of}
 use Rattle.codon_front.specs.Lines.Code.{text_table, sum_code, print_code, end_code}
 use Rattle.codon_front.specs.Lines.Emitted.{EmitsLine, EmitsText, IsEntry}

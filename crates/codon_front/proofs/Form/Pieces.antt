@@ -1,13 +1,12 @@
 -- The first piece of a line.
-use Rattle.std.proofs.Common.{◌≡◌, ◌≢◌, ℕ, zero, suc, slice_index, ◌+◌, ◌<◌, ◌≤◌, ◌&&◌, if◌then◌else◌, List, [], ◌∷◌, Bool, true, false, not, nat_eq, length, take, drop, map, max, refl, ap, sym, ◌∙◌, subst, arith}
+use Rattle.std.proofs.Common.{◌≡◌, ◌≢◌, ℕ, zero, suc, slice_index, ◌+◌, ◌<◌, ◌≤◌, ◌&&◌, if◌then◌else◌, List, [], ◌∷◌, Bool, true, false, not, nat_eq, length, take, drop, map, max, refl, ap, sym, ◌∙◌, arith}
 use Rattle.std.proofs.lemmas.Bool.{eqb-true, false≢true}
 use Rattle.std.specs.List.{position_or_len, onto_first, list_all}
 use Rattle.std.specs.Str.{IsUtf8}
 use Rattle.std.proofs.lemmas.Str.{IsUtf8-from_ascii}
 use Rattle.std.proofs.lemmas.Grind.{common_steps}
 use Rattle.std.proofs.lemmas.Bool.Decides.{nat_tests}
-use Rattle.codon_front.specs.declared.lines.token.Token.{Token}
-use Rattle.codon_front.specs.Lines.Tokens.{pieces_of, tokens_of, is_reserved, is_name, begins_in_letter, token_of, is_word_byte, is_digit, is_letter, begins_in_word}
+use Rattle.codon_front.specs.Lines.Tokens.{pieces_of, tokens_of, is_reserved, is_name, begins_in_letter, token_of, is_word_byte, begins_in_word}
 
 -- how many word bytes a text begins with
 abbrev pub run_of_word : List ℕ → ℕ

@@ -1,6 +1,6 @@
 -- A text says one thing at most. What the tokens of a line say is found by the reader of sums, so two lines with the same tokens
 -- are one; and so it goes on from line to line.
-use Rattle.std.proofs.Common.{◌≡◌, ℕ, ◌+◌, ◌*◌, ◌≤◌, List, [], ◌∷◌, ◌++◌, Option, Some, None, Bool, length, refl, ap, sym, ◌∙◌, subst, arith, append-nil}
+use Rattle.std.proofs.Common.{◌≡◌, ℕ, ◌+◌, ◌*◌, List, [], ◌∷◌, ◌++◌, Some, None, Bool, length, refl, ap, sym, ◌∙◌, subst, arith, append-nil}
 use Rattle.codon_front.specs.declared.lines.token.Token.{Token}
 use Rattle.codon_front.specs.declared.lines.token.Token.TheVariants as token
 use Rattle.codon_front.specs.Lines.Sum.{Sum, sum_tokens}

@@ -1,6 +1,6 @@
 -- What reading a sum from tokens gives: a sum that is written so, and each such sum. The reader is bounded by steps, so the
 -- second half counts how many it takes.
-use Rattle.std.proofs.Common.{◌≡◌, ℕ, zero, suc, ◌+◌, ◌-◌, ◌*◌, ◌<◌, ◌≤◌, List, [], ◌∷◌, ◌++◌, Option, Some, None, Bool, true, false, IsTrue, nat_lt, length, drop, refl, ap, sym, ◌∙◌, subst, arith, lit<, lit≤, ℤ, append_assoc, length-append}
+use Rattle.std.proofs.Common.{◌≡◌, ℕ, zero, suc, ◌+◌, ◌*◌, ◌<◌, ◌≤◌, List, [], ◌∷◌, ◌++◌, Some, None, Bool, true, false, nat_lt, length, refl, ap, sym, ◌∙◌, subst, arith, lit<, lit≤, ℤ, append_assoc, length-append}
 use Rattle.std.proofs.lemmas.Bool.Decides.{nat_tests}
 use Rattle.std.proofs.lemmas.Bool.{lt-ltb, ltb-true, ltb-false}
 use Rattle.code_module.specs.declared.instr.BinaryOp.{BinaryOp}
@@ -9,7 +9,7 @@ use Rattle.codon_front.specs.declared.lines.token.Token.{Token}
 use Rattle.codon_front.specs.declared.lines.token.Token.TheVariants as token
 use Rattle.codon_front.specs.Lines.Sum.{Sum, Number, Name, Group, Binary, level_of, sum_level, sum_tokens, IsLeveled, IsKnown}
 use Rattle.codon_front.specs.Lines.Program.{IsSum}
-use Rattle.codon_front.specs.Lines.Reading.{Goal, Begin, After, Outcome, read_sum, begin_with, after_with, join_with, then_sum, then_close, closes, operator_in}
+use Rattle.codon_front.specs.Lines.Reading.{Goal, Begin, After, Outcome, read_sum, begin_with, after_with, join_with, then_sum, then_close}
 
 -- no operator that binds at least so tightly comes first
 abbrev pub Stops : ℕ → List Token → Type 0

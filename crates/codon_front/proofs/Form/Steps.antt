@@ -1,6 +1,5 @@
 -- One step of reading, as the code takes it.
-use Rattle.std.proofs.Common.{◌≡◌, ℕ, zero, suc, ℤ, ◌+◌, ◌-◌, ◌<◌, ◌≤◌, List, [], ◌∷◌, ◌++◌, Option, Some, None, Bool, true, false, is_some, unwrap_or, if◌then◌else◌, nat_lt, length, drop, refl, ap, sym, ◌∙◌, arith, append_assoc}
-use Rattle.std.proofs.lemmas.Grind.{common_steps}
+use Rattle.std.proofs.Common.{◌≡◌, ℕ, zero, suc, ℤ, ◌+◌, List, [], ◌∷◌, ◌++◌, Option, Some, None, true, false, is_some, unwrap_or, if◌then◌else◌, nat_lt, drop, refl, ap, sym, ◌∙◌, arith, append_assoc}
 use Rattle.code_module.specs.declared.instr.BinaryOp.{BinaryOp}
 use Rattle.codon_front.specs.declared.lines.token.Token.{Token}
 use Rattle.codon_front.specs.declared.lines.token.Token.TheVariants as token
@@ -9,7 +8,7 @@ use Rattle.code_module.specs.declared.instr.Instr.TheVariants as instr
 use Rattle.codon_front.specs.Lines.Sum.{Sum, Number, Name, Group, Binary, level_of}
 use Rattle.codon_front.specs.Lines.Names.{is_numbered}
 use Rattle.codon_front.specs.Lines.Code.{sum_code}
-use Rattle.codon_front.specs.Lines.Reading.{Goal, Begin, After, Outcome, read_sum, begin_with, after_with, join_with, then_sum, then_close, closes, operator_in, IsRead, Begins, Goes}
+use Rattle.codon_front.specs.Lines.Reading.{Begin, After, Outcome, read_sum, begin_with, join_with, then_sum, then_close, closes, operator_in, IsRead, Begins, Goes}
 
 drop_nil : (k : ℕ) → drop k [] ≡ drop {A = Token} 0 []
 drop_nil zero = refl

@@ -1,6 +1,6 @@
 -- Reading a sum from the front of a list of tokens, by how tightly its operators bind (operator precedence), with a bound on the
 -- steps. The laws of `reads_the_sums` tie it to how sums are written.
-use Rattle.std.specs.Prelude.{◌≡◌, ℕ, zero, suc, ◌+◌, ◌≤◌, List, [], ◌∷◌, ◌++◌, Option, Some, None, nat_lt, Bool, true, false, if◌then◌else◌, length, drop}
+use Rattle.std.specs.Prelude.{◌≡◌, ℕ, zero, suc, ◌+◌, ◌≤◌, List, ◌∷◌, ◌++◌, Option, Some, None, nat_lt, Bool, true, false, if◌then◌else◌, length, drop}
 use Rattle.code_module.specs.declared.instr.BinaryOp.{BinaryOp}
 use Rattle.code_module.specs.declared.instr.Instr.{Instr}
 use Rattle.codon_front.specs.declared.lines.token.Token.{Token}

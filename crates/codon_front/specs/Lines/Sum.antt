@@ -1,6 +1,6 @@
 -- Sums: numbers and names under `+`, `-` and `*`, with brackets (Python reference, section 6.7). How they are written, and what
 -- they are worth.
-use Rattle.std.specs.Prelude.{◌≡◌, ℕ, ℤ, ◌≤◌, ◌<◌, List, [], ◌∷◌, ◌++◌, Bool, IsTrue}
+use Rattle.std.specs.Prelude.{ℕ, ℤ, ◌≤◌, ◌<◌, List, [], ◌∷◌, ◌++◌, Bool, IsTrue}
 use Rattle.code_module.specs.declared.instr.BinaryOp.{BinaryOp}
 use Rattle.code_module.specs.declared.instr.BinaryOp.TheVariants.{Add, Sub, Mul}
 use Rattle.codon_base.specs.Number.{sum_of, difference_of, product_of}

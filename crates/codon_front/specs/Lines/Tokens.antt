@@ -1,5 +1,5 @@
 -- The tokens of a line: names, numbers, operators and brackets, with spaces between them (Python reference, section 2).
-use Rattle.std.specs.Prelude.{◌≡◌, ℕ, ℤ, pos, ◌+◌, ◌-◌, ◌*◌, ◌^◌, List, [], ◌∷◌, Option, Some, None, Bool, true, false, ◌&&◌, ◌||◌, not, if◌then◌else◌, nat_eq, nat_lt, nat_le, length, map, codes}
+use Rattle.std.specs.Prelude.{ℕ, ℤ, pos, ◌+◌, ◌-◌, ◌*◌, ◌^◌, List, [], ◌∷◌, Option, Some, None, Bool, true, false, ◌&&◌, ◌||◌, not, if◌then◌else◌, nat_eq, nat_lt, nat_le, length, map, codes}
 use Rattle.std.specs.List.{onto_first, fold, list_all, list_any}
 use Rattle.std.specs.Str.{bytes_eq}
 use Rattle.code_module.specs.declared.instr.BinaryOp.TheVariants.{Add, Sub, Mul}

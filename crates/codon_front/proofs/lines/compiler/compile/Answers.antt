@@ -1,4 +1,4 @@
-use Rattle.std.proofs.Common.{◌≡◌, ◌<◌, ◌+◌, ◌++◌, ◌∷◌, [], List, ℕ, length, arith, length-append, refl, subst, sym}
+use Rattle.std.proofs.Common.{◌≡◌, ◌<◌, ◌+◌, ◌++◌, ◌∷◌, [], length, arith, length-append, refl, subst, sym}
 use Rattle.codon_front.specs.Lines.Names.{number_in}
 use Rattle.codon_front.specs.Lines.Program.{IsLine, AreLines, no_name}
 use Rattle.codon_front.proofs.Form.Emission.{valid_none, emitted_start, emitted_text, line_known, module_runs}

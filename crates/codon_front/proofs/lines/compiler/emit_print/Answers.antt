@@ -1,4 +1,4 @@
-use Rattle.std.proofs.Common.{◌≡◌, ◌+◌, ◌-◌, ◌≤◌, arith, length, subst, sym, ◌∙◌}
+use Rattle.std.proofs.Common.{◌-◌, ◌≤◌, arith, length, subst, sym, ◌∙◌}
 use Rattle.codon_front.specs.Lines.Names.{number_in}
 use Rattle.codon_front.specs.Lines.Emitted.{EmitsTokens}
 use Rattle.codon_front.proofs.Form.Shapes.{print_begins, print_emitted, print_no_close, print_no_sum}

@@ -1,4 +1,4 @@
-use Rattle.std.proofs.Common.{arith, ◌∙◌, ap, max}
+use Rattle.std.proofs.Common.{◌∙◌, ap, max}
 use Rattle.codon_front.proofs.Form.Pieces.{first_token}
 use Rattle.codon_front.proofs.lines.token.piece_len.Goals as goal
 

@@ -1,4 +1,4 @@
-use Rattle.std.proofs.Common.{arith, get_or, ◌≤◌}
+use Rattle.std.proofs.Common.{arith, ◌≤◌}
 use Rattle.codon_front.proofs.Form.Digits.{tenfold_fits}
 use Rattle.codon_front.proofs.lines.token.value_of.Goals as goal
 
