@@ -15,11 +15,13 @@ mod ty;
 mod value;
 
 pub use bytes::{Bytes, Spelling};
-pub use cell_op::CellOp;
+pub use cell_op::{CellOp, combine, combine_laws, neutral};
 pub use fault::{Ending, Fault, FaultKind};
 pub use heap::{Heap, Holder};
 pub use memory::{Memory, Or};
-pub use number::{wrap_add, wrap_mul, wrap_sub};
+pub use number::{
+    floor_div, floor_mod, shift_left, shift_right, wrap_add, wrap_mul, wrap_pow, wrap_sub,
+};
 pub use object::Object;
 pub use print::push_shown;
 pub use source::{FuncId, NodeId, Span};

@@ -1,0 +1,4 @@
+pub mod Floors
+pub mod Wraps
+pub mod Shifts
+pub mod Remainders
