@@ -2,3 +2,4 @@ pub mod Floors
 pub mod Wraps
 pub mod Shifts
 pub mod Remainders
+pub mod CellLaws

@@ -1,0 +1,13 @@
+-- What `show_value` answers about the walk over its value.
+use Rattle.std.specs.Prelude.{◌≡◌, ℕ, List, Result, Ok, Err}
+use Rattle.codon_base.specs.declared.show.ShowRefusal.{ShowRefusal}
+use Rattle.codon_base.specs.declared.show.ShowRefusal.TheVariants.{NotShown, TooLarge, Memory}
+use Rattle.codon_base.specs.Walks.{Walked, going, ended, wrong_kind, too_large}
+
+-- the text where the walk comes to its end; a refusal where it ends for that reason; want of memory says nothing
+abbrev pub AnswersShown : Result (List ℕ) ShowRefusal → Walked (List ℕ) → Type 0
+AnswersShown (Ok bytes) (going text met) = bytes ≡ text
+AnswersShown (Err NotShown) (ended wrong_kind met) = Unit {0}
+AnswersShown (Err TooLarge) (ended too_large met) = Unit {0}
+AnswersShown (Err Memory) walked = Unit {0}
+AnswersShown _ _ = ⊥
