@@ -3,3 +3,4 @@ pub mod Wraps
 pub mod Shifts
 pub mod Remainders
 pub mod CellLaws
+pub mod Writing

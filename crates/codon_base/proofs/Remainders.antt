@@ -57,7 +57,7 @@ go a (negsuc n) q q' m m' d p fb eq eq' em em' ed ep =
     let below : n < 2 ^ 63 = fb.sfits in
     let inner : q ≡ int_wrap w64 (floor_by (neg_ℤ a) (suc n)) = cc in
     let negative : a -ℤ floor_by (neg_ℤ a) (suc n) *ℤ negsuc n ≡ neg_ℤ (pos rest.0) =
-        ap (λ z. a -ℤ z) (*ℤ-negsuc (floor_by (neg_ℤ a) (suc n)) n) ∙ turned a (floor_by (neg_ℤ a) (suc n) *ℤ pos (suc n)) rest.0 rest.1.1 in
+    ap (λ z. a -ℤ z) (*ℤ-negsuc (floor_by (neg_ℤ a) (suc n)) n) ∙ turned a (floor_by (neg_ℤ a) (suc n) *ℤ pos (suc n)) rest.0 rest.1.1 in
     let fits : FitsSigned w64 (a -ℤ floor_by (neg_ℤ a) (suc n) *ℤ negsuc n) = subst (FitsSigned w64) (sym negative) (fits_neg rest.0 n rest.1.0 below) in
     ap Some (from_wrapped a (negsuc n) (floor_by (neg_ℤ a) (suc n)) q q' m m' d p fits inner eq' em em' ed ep)
 

@@ -54,7 +54,6 @@ int_wrap-power-add a x y fits =
     ∙ sym (wrapping_mul-bits w64 p q (mod_below (u ^ x) (2 ^ 64) (omega arith)) (mod_below (u ^ y) (2 ^ 64) (omega arith)))
     ∙ ap (cast_signed w64) (sym (mul-mod (u ^ x) (u ^ y) (2 ^ 64))) ∙ ap (λ k. cast_signed w64 (k % 2 ^ 64)) (sym (pow-add u x y)) ∙ sym (int_wrap-power a (x + y) fits)
 
-
 -- the power by 2 ^ 32 times an exponent, by two powers of 2 ^ 16
 pub far_power_is : (a a' r r' s s' t p : ℤ) (h n : ℕ) → FitsSigned w64 a → a' ≡ a → r ≡ wrapped (power a' h) → r' ≡ r → s ≡ wrapped (power r' h) → s' ≡ s → t ≡ wrapped (power s' n) → p ≡ t → p ≡ wrapped (power a (n * (h * h)))
 far_power_is a a' r r' s s' t p h n fits ea er er' es es' et ep =

@@ -5,7 +5,7 @@ use Rattle.std.specs.Fmt.{signed_decimal}
 use Rattle.codon_base.specs.declared.value.Ref.{Ref}
 use Rattle.codon_base.specs.declared.value.Value.{Value, Value-F, out-Value}
 use Rattle.codon_base.specs.declared.object.Object.{Object}
-use Rattle.codon_base.specs.Walks.{Walked, going, ended, Walk, and_then, ◌>>=◌, answer, end_by, End, wrong_kind, too_large, meet, nesting_limit, Seen, seen_in, found}
+use Rattle.codon_base.specs.Walks.{Walked, going, ended, Walk, and_then, ◌>>=◌, answer, end_by, End, wrong_kind, too_large, meet, nesting_limit, Seen, items, barred, seen_in}
 
 -- ---- texts inside a list or a tuple
 
@@ -51,13 +51,22 @@ abbrev pub tuple_end : List Value → List ℕ
 tuple_end (v ∷ []) = codes ",)"
 tuple_end _ = codes ")"
 
+-- the text of a tuple, where `enter` makes the texts of its items
+abbrev pub tuple_text : (List Value → Walk (List ℕ)) → List Value → Walk (List ℕ)
+tuple_text enter values = answer (codes "(") then enter values then answer (tuple_end values)
+
+-- the text of what was found at an address
+abbrev pub list_text : (List Value → Walk (List ℕ)) → Seen → Walk (List ℕ)
+list_text enter (items values) = answer (codes "[") then enter values then answer (codes "]")
+list_text enter (barred why) = end_by why
+
 -- the text of a value that was met, where `enter` makes the texts of the items of a list or a tuple
 abbrev pub text_met : (List Value → Walk (List ℕ)) → (Ref → Seen) → Bool → Value-F Value → Walk (List ℕ)
 text_met enter look inside (Value-F.Int z) = answer (signed_decimal z)
 text_met enter look inside (Value-F.Bool b) = answer (if b then codes "True" else codes "False")
 text_met enter look inside (Value-F.Text t) = answer (if inside then quoted t else t)
-text_met enter look inside (Value-F.Tuple values) = answer (codes "(") then enter values then answer (tuple_end values)
-text_met enter look inside (Value-F.Ref at) = found (look at) >>= λ values. answer (codes "[") then enter values then answer (codes "]")
+text_met enter look inside (Value-F.Tuple values) = tuple_text enter values
+text_met enter look inside (Value-F.Ref at) = list_text enter (look at)
 text_met enter look inside Value-F.Unit = answer (codes "None")
 text_met enter look inside Value-F.Unset = end_by wrong_kind
 
@@ -65,6 +74,11 @@ text_met enter look inside Value-F.Unset = end_by wrong_kind
 unfoldable pub text_of : (Ref → Seen) → ℕ → Bool → Value → Walk (List ℕ)
 text_of look zero inside v = meet >>= λ _. text_met (λ values. end_by too_large) look inside (out-Value v)
 text_of look (suc room) inside v = meet >>= λ _. text_met (texts (text_of look room true)) look inside (out-Value v)
+
+-- the texts of the items of a list or a tuple, where `room` more of them may be entered
+abbrev pub entered : (Ref → Seen) → ℕ → List Value → Walk (List ℕ)
+entered look zero values = end_by too_large
+entered look (suc room) values = texts (text_of look room true) values
 
 -- the text of a value on a heap of which no list is lent, or the place where its walk ends without one
 abbrev pub shown : List (List Object) → Value → Bool → Walked (List ℕ)

@@ -9,6 +9,7 @@ mod memory;
 mod number;
 mod object;
 mod print;
+mod quote;
 mod show;
 mod source;
 mod text;
@@ -25,7 +26,7 @@ pub use number::{
 };
 pub use object::Object;
 pub use print::push_shown;
-pub use show::ShowRefusal;
+pub use show::{ShowRefusal, show_value};
 pub use source::{FuncId, NodeId, Span};
 pub use text::Text;
 pub use ty::{Ty, Tys};
