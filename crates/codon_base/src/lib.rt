@@ -31,3 +31,6 @@ pub use source::{FuncId, NodeId, Span};
 pub use text::Text;
 pub use ty::{Ty, Tys};
 pub use value::{Ref, Value, Values};
+
+#[cfg(test)]
+mod tests;
