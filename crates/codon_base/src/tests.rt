@@ -177,27 +177,64 @@ fn texts_are_quoted_inside(rt: HostRuntime) -> Result<(), Fail> {
     Ok(())
 }
 
+/// A list of these values, and its text.
+fn check_list(
+    rt: &impl Abort,
+    alloc: Global,
+    heap: &mut Heap,
+    values: Values,
+    bytes: &[u8],
+) -> Result<Value, Fail> {
+    let value = list(heap, values)?;
+    check_shown(rt, alloc, heap, &value, false, bytes)?;
+    Ok(value)
+}
+
 #[test]
-fn values_are_shown(rt: HostRuntime) -> Result<(), Fail> {
+fn lists_are_shown(rt: HostRuntime) -> Result<(), Fail> {
     let alloc = rt.alloc();
     let mut heap = Heap::new(alloc)?;
-    let number = list(&mut heap, one(alloc, Value::Int(1))?)?;
-    check_shown(&rt, alloc, &heap, &number, false, b"[1]")?;
-    let triple = Value::Tuple(one(alloc, Value::Int(-3))?);
-    check_shown(&rt, alloc, &heap, &triple, false, b"(-3,)")?;
+    let _ = check_list(&rt, alloc, &mut heap, Items::new(alloc), b"[]")?;
+    let number = check_list(&rt, alloc, &mut heap, one(alloc, Value::Int(1))?, b"[1]")?;
+    let _ = check_list(&rt, alloc, &mut heap, one(alloc, number)?, b"[[1]]")?;
+    Ok(())
+}
+
+#[test]
+fn texts_in_lists_are_shown(rt: HostRuntime) -> Result<(), Fail> {
+    let alloc = rt.alloc();
+    let mut heap = Heap::new(alloc)?;
     let words = pair(
         alloc,
         Value::Text(text(alloc, b"a")?),
         Value::Text(text(alloc, b"it's")?),
     )?;
-    let words = list(&mut heap, words)?;
-    check_shown(&rt, alloc, &heap, &words, false, b"['a', \"it's\"]")?;
-    let both = Value::Tuple(pair(alloc, words, number)?);
-    check_shown(&rt, alloc, &heap, &both, true, b"(['a', \"it's\"], [1])")?;
-    let copy = both.try_clone(alloc)?;
-    check_shown(&rt, alloc, &heap, &copy, false, b"(['a', \"it's\"], [1])")?;
-    let empty = list(&mut heap, Items::new(alloc))?;
-    check_shown(&rt, alloc, &heap, &empty, false, b"[]")?;
+    let _ = check_list(&rt, alloc, &mut heap, words, b"['a', \"it's\"]")?;
+    Ok(())
+}
+
+#[test]
+fn tuples_are_shown(rt: HostRuntime) -> Result<(), Fail> {
+    let alloc = rt.alloc();
+    let heap = Heap::new(alloc)?;
+    let single = Value::Tuple(one(alloc, Value::Int(-3))?);
+    check_shown(&rt, alloc, &heap, &single, false, b"(-3,)")?;
+    let both = Value::Tuple(pair(alloc, single, Value::Bool(true))?);
+    check_shown(&rt, alloc, &heap, &both, true, b"((-3,), True)")?;
+    check_shown(
+        &rt,
+        alloc,
+        &heap,
+        &both.try_clone(alloc)?,
+        false,
+        b"((-3,), True)",
+    )
+}
+
+#[test]
+fn single_values_are_shown(rt: HostRuntime) -> Result<(), Fail> {
+    let alloc = rt.alloc();
+    let heap = Heap::new(alloc)?;
     check_shown(
         &rt,
         alloc,
@@ -206,14 +243,7 @@ fn values_are_shown(rt: HostRuntime) -> Result<(), Fail> {
         false,
         b"()",
     )?;
-    check_shown(
-        &rt,
-        alloc,
-        &heap,
-        &Value::Tuple(pair(alloc, Value::Bool(true), Value::Bool(false))?),
-        false,
-        b"(True, False)",
-    )?;
+    check_shown(&rt, alloc, &heap, &Value::Bool(false), false, b"False")?;
     check_shown(&rt, alloc, &heap, &Value::Unit, true, b"None")
 }
 
@@ -225,34 +255,40 @@ fn nested(alloc: Global, depth: u64) -> Result<Value, Fail> {
     Ok(value)
 }
 
+fn refusal(alloc: Global, heap: &Heap, value: &Value) -> Option<ShowRefusal> {
+    show_value(alloc, heap, value, false).err()
+}
+
 #[test]
-fn walks_end(rt: HostRuntime) -> Result<(), Fail> {
+fn nesting_has_a_limit(rt: HostRuntime) -> Result<(), Fail> {
     let alloc = rt.alloc();
-    let mut heap = Heap::new(alloc)?;
-    assert!(rt; show_value(alloc, &heap, &nested(alloc, 1000)?, false).is_ok());
+    let heap = Heap::new(alloc)?;
+    assert_eq!(rt; refusal(alloc, &heap, &nested(alloc, 1000)?), None);
     assert_eq!(rt;
-        show_value(alloc, &heap, &nested(alloc, 1001)?, false).err(),
+        refusal(alloc, &heap, &nested(alloc, 1001)?),
         Some(ShowRefusal::TooLarge)
     );
+    Ok(())
+}
+
+#[test]
+fn some_values_have_no_text(rt: HostRuntime) -> Result<(), Fail> {
+    let alloc = rt.alloc();
+    let mut heap = Heap::new(alloc)?;
     let unset = Value::Tuple(pair(alloc, Value::Int(1), Value::Unset)?);
+    assert_eq!(rt; refusal(alloc, &heap, &unset), Some(ShowRefusal::NotShown));
+    let at = Ref { level: 0, place: 0 };
     assert_eq!(rt;
-        show_value(alloc, &heap, &unset, false).err(),
-        Some(ShowRefusal::NotShown)
-    );
-    let missing = Value::Ref(Ref { level: 0, place: 9 });
-    assert_eq!(rt;
-        show_value(alloc, &heap, &missing, false).err(),
+        refusal(alloc, &heap, &Value::Ref(at)),
         Some(ShowRefusal::NotShown)
     );
     let instance = Object::Instance {
         class: 0,
         fields: Items::new(alloc),
     };
-    let Ok(at) = heap.add(instance) else {
-        return Err("no memory".into());
-    };
+    assert!(rt; heap.add(instance).is_ok());
     assert_eq!(rt;
-        show_value(alloc, &heap, &Value::Ref(at), false).err(),
+        refusal(alloc, &heap, &Value::Ref(at)),
         Some(ShowRefusal::NotShown)
     );
     Ok(())
@@ -278,7 +314,7 @@ fn levels_open_and_close(rt: HostRuntime) -> Result<(), Fail> {
 }
 
 #[test]
-fn texts_are_bytes(rt: HostRuntime) -> Result<(), Fail> {
+fn texts_grow_and_compare(rt: HostRuntime) -> Result<(), Fail> {
     let alloc = rt.alloc();
     let mut word = text(alloc, b"ab")?;
     let other = text(alloc, b"abc")?;
@@ -286,9 +322,13 @@ fn texts_are_bytes(rt: HostRuntime) -> Result<(), Fail> {
     assert!(rt; !word.equals(&other));
     word.append(&other)?;
     assert_eq!(rt; word.as_bytes(), b"ababc".as_slice());
-    assert_eq!(rt; word.len(), 5);
-    assert!(rt; !word.is_empty());
     assert!(rt; word.try_clone(alloc)?.equals(&word));
+    Ok(())
+}
+
+#[test]
+fn texts_are_ascii(rt: HostRuntime) -> Result<(), Fail> {
+    let alloc = rt.alloc();
     assert!(rt; Text::from_bytes(Vec::from_slice(alloc, b"\x80")?).is_err());
     assert!(rt; Text::from_bytes(Vec::from_slice(alloc, b"\x7f")?).is_ok());
     Ok(())
