@@ -1,14 +1,14 @@
 -- Parts of a reduction combine in any grouping and order.
-use Rattle.std.proofs.Common.{◌≡◌, ℕ, zero, suc, ◌+◌, ◌*◌, ◌%◌, ◌^◌, ◌<◌, ◌≤◌, refl, sym, ap, ◌∙◌, arith, ℤ, pos, negsuc, ◌+ℤ◌, ◌*ℤ◌, w64, FitsSigned, mul_assoc}
+use Rattle.std.proofs.Common.{◌≡◌, ℕ, ◌*◌, ◌%◌, ◌^◌, ◌<◌, sym, ap, ◌∙◌, arith, ℤ, pos, negsuc, ◌+ℤ◌, ◌*ℤ◌, w64, FitsSigned, mul_assoc}
 use Rattle.std.proofs.Math.IntN.{+ℤ_assoc, +ℤ_comm, *ℤ_comm}
 use Rattle.std.specs.Int.Bits.{bit_and, bit_or, bit_xor, and_lt, or_lt, xor_lt, xor_assoc, and_comm, or_comm, xor_comm}
 use Rattle.std.proofs.lemmas.Nat.{mod_below, mul-mod_first, mul-mod_second, and_assoc}
 use Rattle.std.proofs.lemmas.Nat.Bits.{bit_at_or, same_from_bits}
 use Rattle.std.proofs.lemmas.Int.{ints, clamps, of_z-to_z, int_wrap-add_left, int_wrap-add_right, wrapping_mul_is, SFits-int_wrap}
-use Rattle.std.specs.Int.{int_wrap, int_min, int_max, cast_signed, cast_unsigned, bit_at}
+use Rattle.std.specs.Int.{int_wrap, cast_signed, cast_unsigned}
 use Rattle.codon_base.specs.declared.cell_op.CellOp.{CellOp}
 use Rattle.codon_base.specs.declared.cell_op.CellOp.TheVariants.{Sum, Product, And, Or, Xor, Least, Greatest}
-use Rattle.codon_base.specs.Number.{sum_of, product_of, and_of, or_of, xor_of}
+use Rattle.codon_base.specs.Number.{product_of}
 use Rattle.codon_base.specs.Cells.{combined}
 
 -- the bits of a number of the range are below 2 ^ 64

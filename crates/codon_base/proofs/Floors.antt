@@ -1,12 +1,12 @@
 -- How the floor of a quotient changes with its dividend, and the floor by a negative divisor.
-use Rattle.std.proofs.Common.{◌≡◌, ℕ, zero, suc, ◌+◌, ◌-◌, ◌*◌, ◌/◌, ◌%◌, ◌<◌, ◌≤◌, refl, sym, ap, ◌∙◌, arith, true, false, ℤ, pos, negsuc, ◌-ℤ◌, ◌+ℤ◌, ◌<ℤ◌, ◌≤ℤ◌, neg_ℤ, ◌⊎◌, inl, inr}
+use Rattle.std.proofs.Common.{◌≡◌, ℕ, zero, suc, ◌+◌, ◌-◌, ◌*◌, ◌/◌, ◌%◌, ◌<◌, refl, sym, ap, ◌∙◌, arith, true, false, ℤ, pos, negsuc, ◌-ℤ◌, ◌<ℤ◌, neg_ℤ, ◌⊎◌, inl, inr}
 use Rattle.std.proofs.Math.Nat.{suc-mul, eq-or-lt_of_le, mod-le, zero-div}
 use Rattle.std.proofs.lemmas.Nat.{div-mul-add, mod-mul-add, div-add-mod', mod_below}
 use Rattle.std.proofs.lemmas.Int.{ints}
 use Rattle.std.proofs.lemmas.Bool.Decides.{nat_tests}
 use Rattle.std.specs.Prelude.{int_lt}
 use Rattle.std.specs.Int.{int_div_euclid, int_rem_euclid}
-use Rattle.codon_base.specs.Number.{floor_quotient, floor_by}
+use Rattle.codon_base.specs.Number.{floor_quotient}
 
 -- from one number to the next: it is a multiple of n + 1 and its quotient is one more, or it is none and its quotient is the same
 pub data Step (a n : ℕ) : Type 0 where

@@ -1,5 +1,5 @@
 -- The floor by -1, and what a floor leaves of its dividend.
-use Rattle.std.proofs.Common.{◌≡◌, ℕ, zero, suc, ◌+◌, ◌-◌, ◌*◌, ◌/◌, ◌%◌, ◌^◌, ◌<◌, ◌≤◌, refl, sym, ap, subst, ◌∙◌, arith, ℤ, pos, negsuc, ◌*ℤ◌, ◌-ℤ◌, ◌+ℤ◌, neg_ℤ, w64, FitsSigned}
+use Rattle.std.proofs.Common.{◌≡◌, ℕ, zero, suc, ◌+◌, ◌-◌, ◌*◌, ◌/◌, ◌%◌, ◌^◌, ◌<◌, ◌≤◌, sym, ap, subst, ◌∙◌, arith, ℤ, pos, negsuc, ◌*ℤ◌, ◌-ℤ◌, neg_ℤ, w64, FitsSigned}
 use Rattle.std.proofs.Math.Nat.{suc-mul, div-one}
 use Rattle.std.proofs.Math.IntN.{*ℤ-negsuc}
 use Rattle.std.proofs.lemmas.Nat.{mod_below, div-add-mod'}

@@ -1,8 +1,8 @@
 -- Whole numbers modulo 2 ^ 64, by their 64 bits as a natural number.
-use Rattle.std.proofs.Common.{◌≡◌, ℕ, zero, suc, ◌+◌, ◌-◌, ◌*◌, ◌/◌, ◌%◌, ◌^◌, ◌<◌, ◌≤◌, refl, sym, ap, ◌∙◌, arith, ℤ, pos, negsuc, ◌*ℤ◌, w64, FitsSigned, mul_comm, mul_assoc, true, false}
+use Rattle.std.proofs.Common.{◌≡◌, ℕ, zero, suc, ◌+◌, ◌*◌, ◌/◌, ◌%◌, ◌^◌, ◌<◌, refl, sym, ap, ◌∙◌, arith, ℤ, pos, negsuc, ◌*ℤ◌, w64, FitsSigned, mul_comm, false}
 use Rattle.std.proofs.Math.Nat.{pow-suc, pow-zero, mul-suc, mul-zero}
 use Rattle.std.proofs.lemmas.Nat.{mod_below, mul-mod_first, mul-mod_second, mul-mod, pow-mod, pow-add, div-add-mod'}
-use Rattle.std.proofs.lemmas.Int.{of_z-to_z, int_wrap_fits, int_wrap-mul_left, int_wrap-mul_right, wrapping_mul_is, wrapping_mul_onto, wrapping_mul-bits, SFits-int_wrap}
+use Rattle.std.proofs.lemmas.Int.{of_z-to_z, int_wrap-mul_left, int_wrap-mul_right, wrapping_mul_is, wrapping_mul_onto, wrapping_mul-bits, SFits-int_wrap}
 use Rattle.std.specs.Int.{int_wrap, cast_signed, cast_unsigned, int_wrapping_mul}
 use Rattle.std.specs.Prelude.{int_lt, unsigned_abs, Some}
 use Rattle.codon_base.specs.Number.{power, wrapped, product_of, power_of}

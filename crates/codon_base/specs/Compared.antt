@@ -3,7 +3,7 @@ use Rattle.std.specs.Prelude.{ℕ, suc, zero, Bool, true, false, ◌==◌, nat_e
 use Rattle.std.specs.Cmp.Lexicographic.{pointwise}
 use Rattle.codon_base.specs.declared.value.Ref.{Ref}
 use Rattle.codon_base.specs.declared.value.Value.{Value, Value-F, out-Value}
-use Rattle.codon_base.specs.Walks.{Walked, Walk, ◌>>=◌, answer, end_by, End, wrong_kind, lent_list, too_large, meet, nesting_limit, Seen, items, barred, found}
+use Rattle.codon_base.specs.Walks.{Walk, ◌>>=◌, answer, end_by, wrong_kind, too_large, meet, nesting_limit, Seen, items, barred}
 
 abbrev pub int_equal : ℤ → ℤ → Bool
 int_equal a b = int_le a b && int_le b a

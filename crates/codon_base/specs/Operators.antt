@@ -1,6 +1,5 @@
 -- What the operators and builtins make of values. An operator is chosen by the kinds of the values that it meets.
-use Rattle.std.specs.Prelude.{ℕ, suc, zero, ◌+◌, ◌-◌, ◌*◌, ◌<◌, Bool, true, false, not, ◌&&◌, ◌||◌, if◌then◌else◌, nat_lt, nat_le, ◌==◌, nat_eq, List, [], ◌∷◌, ◌++◌, length, Option, Some, None, ℤ, pos, negsuc, neg_ℤ, int_lt, int_le, codes}
-use Rattle.std.specs.List.{list_all}
+use Rattle.std.specs.Prelude.{ℕ, zero, ◌+◌, ◌-◌, ◌*◌, Bool, true, false, not, ◌&&◌, if◌then◌else◌, nat_lt, nat_le, ◌==◌, List, [], ◌∷◌, ◌++◌, length, Option, Some, None, ℤ, pos, negsuc, neg_ℤ, int_lt, codes}
 use Rattle.std.specs.Int.{int_min, int_max}
 use Rattle.std.specs.Ordering.{nat_cmp, is_lt}
 use Rattle.std.specs.Cmp.Lexicographic.{slice_cmp}
@@ -11,7 +10,7 @@ use Rattle.codon_base.specs.declared.value.Value.{Value, Value-F, out-Value}
 use Rattle.codon_base.specs.declared.value.Value.TheVariants as value
 use Rattle.codon_base.specs.declared.object.Object.{Object}
 use Rattle.codon_base.specs.Number.{sum_of, difference_of, product_of, negation_of, power_of, quotient_of, remainder_of, left_shift_of, right_shift_of, complement_of, and_of, or_of, xor_of}
-use Rattle.codon_base.specs.Walks.{Walked, going, ended, Walk, End, wrong_kind, lent_list, too_large, nesting_limit, Seen, items, barred, seen_in}
+use Rattle.codon_base.specs.Walks.{Walked, going, ended, End, wrong_kind, lent_list, too_large, nesting_limit, Seen, items, barred, seen_in}
 use Rattle.codon_base.specs.Printed.{text_of}
 use Rattle.codon_base.specs.Compared.{equal, member}
 use Rattle.codon_base.specs.Sequences.{repeated, count_of, occurs}

@@ -1,11 +1,11 @@
 -- The text of a value, as `print` and `str` write it.
-use Rattle.std.specs.Prelude.{◌≡◌, ℕ, suc, zero, ◌+◌, ◌/◌, ◌%◌, ◌==◌, Bool, true, false, not, ◌&&◌, ◌||◌, if◌then◌else◌, nat_lt, List, [], ◌∷◌, ◌++◌, Option, Some, None, Result, Ok, Err, codes}
+use Rattle.std.specs.Prelude.{ℕ, suc, zero, ◌+◌, ◌/◌, ◌%◌, ◌==◌, Bool, true, not, ◌&&◌, ◌||◌, if◌then◌else◌, nat_lt, List, [], ◌∷◌, ◌++◌, codes}
 use Rattle.std.specs.List.{flat_map, list_any}
 use Rattle.std.specs.Fmt.{signed_decimal}
 use Rattle.codon_base.specs.declared.value.Ref.{Ref}
 use Rattle.codon_base.specs.declared.value.Value.{Value, Value-F, out-Value}
 use Rattle.codon_base.specs.declared.object.Object.{Object}
-use Rattle.codon_base.specs.Walks.{Walked, going, ended, Walk, and_then, ◌>>=◌, answer, end_by, End, wrong_kind, too_large, meet, nesting_limit, Seen, items, barred, seen_in}
+use Rattle.codon_base.specs.Walks.{Walked, Walk, ◌>>=◌, answer, end_by, wrong_kind, too_large, meet, nesting_limit, Seen, items, barred, seen_in}
 
 -- ---- texts inside a list or a tuple
 

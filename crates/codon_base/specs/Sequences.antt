@@ -1,5 +1,5 @@
 -- Places, slices and repetition of lists and texts (Python reference, 6.3.2, 6.3.3 and 6.7).
-use Rattle.std.specs.Prelude.{ℕ, suc, zero, ◌+◌, ◌-◌, Bool, ◌||◌, if◌then◌else◌, nat_lt, nat_eq, min, List, [], ◌∷◌, ◌++◌, length, take, drop, Option, Some, None, ℤ, pos, negsuc}
+use Rattle.std.specs.Prelude.{ℕ, suc, zero, ◌-◌, Bool, ◌||◌, if◌then◌else◌, nat_lt, nat_eq, min, List, [], ◌∷◌, ◌++◌, take, drop, Option, Some, None, ℤ, pos, negsuc}
 use Rattle.std.specs.List.{starts_with}
 
 -- the place that an index names in a sequence of that length; a negative one counts from the end

@@ -1,5 +1,5 @@
 -- Walks over values: depth first, from left to right, with two limits.
-use Rattle.std.specs.Prelude.{ℕ, suc, zero, ◌+◌, Bool, true, false, if◌then◌else◌, nat_lt, List, [], ◌∷◌, Option, Some, None}
+use Rattle.std.specs.Prelude.{ℕ, ◌+◌, if◌then◌else◌, nat_lt, List, Option, Some, None}
 use Rattle.codon_base.specs.declared.value.Ref.{Ref}
 use Rattle.codon_base.specs.declared.value.Value.{Value}
 use Rattle.codon_base.specs.declared.object.Object.{Object}

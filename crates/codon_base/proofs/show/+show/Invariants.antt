@@ -1,4 +1,4 @@
-use Rattle.std.proofs.Common.{◌≡◌, ℕ, ◌+◌, ◌*◌, List, Result, drop, true}
+use Rattle.std.proofs.Common.{ℕ, ◌+◌, ◌*◌, List, Result, drop, true}
 use Rattle.codon_base.specs.declared.show.ShowRefusal.{ShowRefusal}
 use Rattle.codon_base.specs.Printed.{text_of, more_texts}
 use Rattle.codon_base.specs.Walks.{seen_in}
