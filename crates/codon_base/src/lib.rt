@@ -1,4 +1,4 @@
-//! Values of a program and the heap that they live on, whole numbers of 64 bits, and the bytes that values are printed as. It knows nothing of sources, types or machine code.
+//! Values of a program, the heap that they live on, whole numbers of 64 bits and the bytes that values are printed as; and the places, numbers and types by which the crates above name things. It promises what each operator gives, exactly, and knows nothing of syntax trees or machine code.
 #![tactic(auto)]
 
 mod bytes;

@@ -1,8 +1,8 @@
 ghost use Rattle.std.specs.Prelude.{true, if◌then◌else◌};
 ghost use Rattle.codon_base.specs.declared.value.Value.{out-Value};
 ghost use Rattle.codon_base.specs.Printed.{shown, text_met, tuple_text, list_text, text_of, more_texts, entered, quoted};
-ghost use Rattle.codon_base.specs.Walks.{seen_in, items, going};
-ghost use Rattle.codon_base.specs.ShowAnswers.{AnswersShown, Writes};
+ghost use Rattle.codon_base.specs.Walks.{seen_in, items, answer};
+ghost use Rattle.codon_base.specs.ShowAnswers.{AnswersShown, Prints};
 
 use crate::quote::push_quoted;
 use crate::{Bytes, Holder, Object, Ref, Value};
@@ -59,7 +59,8 @@ fn show_one<H: Holder>(
     room: u32,
     printer: &mut Printer,
 ) -> Result<(), ShowRefusal>
-    ensures { Writes result (text_of (seen_in (H.levels heap.now)) room inside value.now printer.old.met) printer.old.bytes.items printer.new.bytes.items printer.new.met }
+    ensures { Prints result (text_of (seen_in (H.levels heap.now)) room inside value.now)
+        printer.old printer.new }
 {
     if printer.met >= VALUE_LIMIT {
         return Err(ShowRefusal::TooLarge);
@@ -77,7 +78,9 @@ fn show_met<H: Holder>(
     room: u32,
     printer: &mut Printer,
 ) -> Result<(), ShowRefusal>
-    ensures { Writes result (text_met (entered (seen_in (H.levels heap.now)) room) (seen_in (H.levels heap.now)) inside (out-Value value.now) printer.old.met) printer.old.bytes.items printer.new.bytes.items printer.new.met }
+    ensures { let look = seen_in (H.levels heap.now) in
+        Prints result (text_met (entered look room) look inside (out-Value value.now))
+        printer.old printer.new }
 {
     match value {
         Value::Int(number) => printer.push(Buffer::new().format(*number).as_bytes()),
@@ -98,7 +101,8 @@ fn show_tuple<H: Holder>(
     room: u32,
     printer: &mut Printer,
 ) -> Result<(), ShowRefusal>
-    ensures { Writes result (tuple_text (entered (seen_in (H.levels heap.now)) room) values.now printer.old.met) printer.old.bytes.items printer.new.bytes.items printer.new.met }
+    ensures { Prints result (tuple_text (entered (seen_in (H.levels heap.now)) room) values.now)
+        printer.old printer.new }
 {
     printer.push(b"(")?;
     show_items(heap, values, room, printer)?;
@@ -112,7 +116,9 @@ fn show_list<H: Holder>(
     room: u32,
     printer: &mut Printer,
 ) -> Result<(), ShowRefusal>
-    ensures { Writes result (list_text (entered (seen_in (H.levels heap.now)) room) (seen_in (H.levels heap.now) at) printer.old.met) printer.old.bytes.items printer.new.bytes.items printer.new.met }
+    ensures { let look = seen_in (H.levels heap.now) in
+        Prints result (list_text (entered look room) (look at))
+        printer.old printer.new }
 {
     match heap.get(at) {
         Some(Object::List(values)) => show_list_items(heap, values.as_slice(), room, printer),
@@ -127,7 +133,8 @@ fn show_list_items<H: Holder>(
     room: u32,
     printer: &mut Printer,
 ) -> Result<(), ShowRefusal>
-    ensures { Writes result (list_text (entered (seen_in (H.levels heap.now)) room) (items values.now) printer.old.met) printer.old.bytes.items printer.new.bytes.items printer.new.met }
+    ensures { Prints result (list_text (entered (seen_in (H.levels heap.now)) room) (items values.now))
+        printer.old printer.new }
 {
     printer.push(b"[")?;
     show_items(heap, values, room, printer)?;
@@ -142,7 +149,8 @@ fn show_items<H: Holder>(
     room: u32,
     printer: &mut Printer,
 ) -> Result<(), ShowRefusal>
-    ensures { Writes result (entered (seen_in (H.levels heap.now)) room values.now printer.old.met) printer.old.bytes.items printer.new.bytes.items printer.new.met }
+    ensures { Prints result (entered (seen_in (H.levels heap.now)) room values.now)
+        printer.old printer.new }
 {
     if room == 0 {
         return Err(ShowRefusal::TooLarge);
@@ -164,7 +172,8 @@ fn show_more<H: Holder>(
     room: u32,
     printer: &mut Printer,
 ) -> Result<(), ShowRefusal>
-    ensures { Writes result (more_texts (text_of (seen_in (H.levels heap.now)) room true) values.now printer.old.met) printer.old.bytes.items printer.new.bytes.items printer.new.met }
+    ensures { Prints result (more_texts (text_of (seen_in (H.levels heap.now)) room true) values.now)
+        printer.old printer.new }
 {
     'more: for value in values {
         printer.push(b", ")?;
@@ -175,7 +184,8 @@ fn show_more<H: Holder>(
 
 impl Printer {
     fn push(&mut self, text: &[u8]) -> Result<(), ShowRefusal>
-        ensures { Writes result (going text.now self.old.met) self.old.bytes.items self.new.bytes.items self.new.met }
+        ensures { Prints result (answer text.now)
+            self.old self.new }
     {
         match self.bytes.extend_from_slice(text) {
             Ok(()) => Ok(()),
@@ -185,7 +195,8 @@ impl Printer {
 
     /// A text, in quotes where it stands inside a list or a tuple.
     fn push_text(&mut self, text: &[u8], inside: bool) -> Result<(), ShowRefusal>
-        ensures { Writes result (going (if inside then quoted text.now else text.now) self.old.met) self.old.bytes.items self.new.bytes.items self.new.met }
+        ensures { Prints result (answer (if inside then quoted text.now else text.now))
+            self.old self.new }
     {
         if inside {
             match push_quoted(&mut self.bytes, text) {
