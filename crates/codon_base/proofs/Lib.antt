@@ -1,0 +1,6 @@
+pub mod Floors
+pub mod Wraps
+pub mod Shifts
+pub mod Remainders
+pub mod CellLaws
+pub mod Writing
