@@ -1,0 +1,4 @@
+pub mod Leaving
+pub mod Digits
+pub mod Words
+pub mod Inside
