@@ -1,4 +1,5 @@
 pub mod Leaving
 pub mod Digits
-pub mod Words
 pub mod Inside
+pub mod Runs
+pub mod First

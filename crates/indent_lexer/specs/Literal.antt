@@ -80,3 +80,8 @@ IsPart (Holds c n) left = (c < 128) × (0 < n) × (n ≤ left)
 IsPart (Joins n) left = (0 < n) × (n ≤ left)
 IsPart (Closes n) left = (0 < n) × (n ≤ left)
 IsPart _ left = Unit {0}
+
+abbrev pub IsLiteral : Literal → ℕ → Type 0
+IsLiteral (literal.Closed value n) left = (0 < n) × (n ≤ left)
+IsLiteral literal.Open left = Unit {0}
+IsLiteral (literal.Fault kind n) left = n ≤ left

@@ -29,3 +29,8 @@ abbrev pub name_len : ℕ → List ℕ → ℕ
 name_len n [] = 0
 name_len zero (b ∷ bs) = if continues_name (b ∷ bs) then suc (name_len (continuation_len b) bs) else 0
 name_len (suc n) (b ∷ bs) = suc (name_len n bs)
+
+-- the first character of the text, and the name characters after it
+abbrev pub word_len : List ℕ → ℕ
+word_len [] = 0
+word_len (b ∷ bs) = suc (name_len (continuation_len b) bs)

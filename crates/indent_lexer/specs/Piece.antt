@@ -9,7 +9,7 @@ use Rattle.indent_lexer.specs.declared.piece.Piece.TheVariants as piece
 use Rattle.indent_lexer.specs.declared.text.Literal.{Literal}
 use Rattle.indent_lexer.specs.declared.text.Literal.TheVariants as literal
 use Rattle.indent_lexer.specs.Place.{line_end_len, begins_with}
-use Rattle.indent_lexer.specs.Name.{starts_name, name_len}
+use Rattle.indent_lexer.specs.Name.{starts_name, word_len}
 use Rattle.indent_lexer.specs.Number.{numeral}
 use Rattle.indent_lexer.specs.Literal.{literal_of}
 use Rattle.indent_lexer.specs.Word.{is_keyword, operator_len}
@@ -55,6 +55,18 @@ operator_at (suc n) text = piece.Token (kind.Op (take (suc n) text)) (suc n)
 abbrev pub is_digit : ℕ → Bool
 is_digit c = nat_le 48 c && nat_lt c 58
 
+abbrev pub is_line_end : ℕ → Bool
+is_line_end c = nat_eq c 10 || nat_eq c 13
+
+abbrev pub is_quote : ℕ → Bool
+is_quote c = nat_eq c 34 || nat_eq c 39
+
+abbrev pub number_or_word : ℕ → List ℕ → Piece
+number_or_word c text =
+    if is_digit c then number_at (word_len text) text else
+    (if starts_name text then name_at (word_len text) text else
+    operator_at (operator_len text) text)
+
 -- The piece that the text begins with (2.1, 2.2). Where none stands, `Bad` has the number of bytes before the
 -- refused place.
 abbrev pub piece_of : List ℕ → Piece
@@ -62,13 +74,11 @@ piece_of [] = piece.Skip 0
 piece_of (c ∷ cs) =
     if nat_eq c 32 then piece.Space else
     (if nat_eq c 9 then piece.Tab else
-    (if nat_eq c 10 || nat_eq c 13 then piece.LineEnd (line_end_len (c ∷ cs)) else
+    (if is_line_end c then piece.LineEnd (line_end_len (c ∷ cs)) else
     (if nat_eq c 35 then piece.Skip (comment_len (c ∷ cs)) else
     (if nat_eq c 92 then after_backslash (line_end_len cs) else
-    (if nat_eq c 34 || nat_eq c 39 then text_piece (literal_of c (c ∷ cs)) else
-    (if is_digit c then number_at (name_len 0 (c ∷ cs)) (c ∷ cs) else
-    (if starts_name (c ∷ cs) then name_at (name_len 0 (c ∷ cs)) (c ∷ cs) else
-    operator_at (operator_len (c ∷ cs)) (c ∷ cs))))))))
+    (if is_quote c then text_piece (literal_of c (c ∷ cs)) else
+    number_or_word c (c ∷ cs))))))
 
 -- a piece takes some bytes, and no more than there are
 abbrev pub IsPiece : Piece → ℕ → Type 0

@@ -1,6 +1,6 @@
 ghost use Rattle.std.specs.Prelude.{◌≡◌, ◌≤◌, ◌<◌, ◌+◌, zero, length};
 ghost use Rattle.std.specs.Str.{continuation_len, lead_bits};
-ghost use Rattle.indent_lexer.specs.Name.{first_code, code_after, starts_name, continues_name, name_len};
+ghost use Rattle.indent_lexer.specs.Name.{first_code, code_after, starts_name, continues_name, name_len, word_len};
 
 use crate::place::after;
 use unicode_ident::{is_xid_continue, is_xid_start};
@@ -79,7 +79,7 @@ fn continues_name(text: &[u8]) -> bool
 }
 
 /// How many bytes the longest front of a text takes whose characters all go on with a name.
-pub fn name_len(text: &[u8]) -> usize
+fn name_len(text: &[u8]) -> usize
     ensures value { result ≡ name_len 0 text.now }
     ensures within { result ≤ length text.now }
 {
@@ -94,4 +94,17 @@ pub fn name_len(text: &[u8]) -> usize
         rest = after(rest, size);
     }
     len
+}
+
+/// How many bytes the first character of a text takes with the name characters after it.
+pub fn word_len(text: &[u8]) -> usize
+    ensures value { result ≡ word_len text.now }
+    ensures within { result ≤ length text.now }
+    ensures some { 0 < length text.now → 0 < result }
+{
+    let [first, ..] = text else {
+        return 0;
+    };
+    let size = text.len().min(continuation_len(*first) + 1);
+    size + name_len(after(text, size))
 }

@@ -1,11 +1,11 @@
 ghost use Rattle.std.specs.Prelude.{◌≡◌, ◌≤◌, ◌<◌, IfOk, length, take, slice_index, if◌then◌else◌};
 ghost use Rattle.std.specs.List.{position_or_len};
-ghost use Rattle.indent_lexer.specs.Piece.{piece_of, comment_len, ends_comment, after_backslash, number_at, text_piece, name_at, operator_at, is_digit, IsPiece};
+ghost use Rattle.indent_lexer.specs.Piece.{piece_of, comment_len, ends_comment, after_backslash, number_at, text_piece, name_at, operator_at, number_or_word, is_digit, is_line_end, is_quote, IsPiece};
 ghost use Rattle.indent_lexer.specs.Literal.{literal_of};
-ghost use Rattle.indent_lexer.specs.Name.{starts_name, name_len};
+ghost use Rattle.indent_lexer.specs.Name.{starts_name, word_len};
 ghost use Rattle.indent_lexer.specs.Word.{operator_len};
 
-use crate::name::{name_len, starts_name};
+use crate::name::{starts_name, word_len};
 use crate::number::numeral;
 use crate::place::{after, begins_with, line_end_len};
 use crate::text::{Literal, literal_of};
@@ -34,16 +34,34 @@ pub fn piece_of(alloc: Global, text: &[u8]) -> Result<Piece, Memory>
     ensures value { IfOk result (λ piece. piece ≡ piece_of text.now) }
     ensures within { IfOk result (λ piece. IsPiece piece (length text.now)) }
 {
-    match text[0] {
-        b' ' => Ok(Piece::Space),
-        b'\t' => Ok(Piece::Tab),
-        b'\n' | b'\r' => Ok(Piece::LineEnd(line_end_len(text))),
-        b'#' => Ok(Piece::Skip(comment_len(text))),
-        b'\\' => Ok(after_backslash(line_end_len(after(text, 1)))),
-        b'"' | b'\'' => quoted(alloc, text),
-        b'0'..=b'9' => Ok(number_at(name_len(text), text)),
-        _ => word_or_operator(alloc, text),
+    let first = text[0];
+    if first == b' ' {
+        Ok(Piece::Space)
+    } else if first == b'\t' {
+        Ok(Piece::Tab)
+    } else if is_line_end(first) {
+        Ok(Piece::LineEnd(line_end_len(text)))
+    } else if first == b'#' {
+        Ok(Piece::Skip(comment_len(text)))
+    } else if first == b'\\' {
+        Ok(after_backslash(line_end_len(after(text, 1))))
+    } else if is_quote(first) {
+        quoted(alloc, text)
+    } else {
+        number_or_word(alloc, text)
     }
+}
+
+fn is_line_end(byte: u8) -> bool
+    ensures { result ≡ is_line_end byte }
+{
+    byte == b'\n' || byte == b'\r'
+}
+
+fn is_quote(byte: u8) -> bool
+    ensures { result ≡ is_quote byte }
+{
+    byte == b'"' || byte == b'\''
 }
 
 /// How many bytes the comment takes that stands here.
@@ -76,8 +94,10 @@ fn after_backslash(line_end: usize) -> Piece
 
 /// The number that the name characters from a digit on spell.
 fn number_at(len: usize, text: &[u8]) -> Piece
-    requires { len ≤ length text.now }
-    ensures { result ≡ number_at len text.now }
+    requires within { len ≤ length text.now }
+    requires some { 0 < len }
+    ensures value { result ≡ number_at len text.now }
+    ensures within { IsPiece result (length text.now) }
 {
     if begins_with(b'.', after(text, len)) {
         return Piece::Bad(LexKind::BadNumber, 0);
@@ -91,7 +111,8 @@ fn number_at(len: usize, text: &[u8]) -> Piece
 /// The text in quotes that stands here.
 fn quoted(alloc: Global, text: &[u8]) -> Result<Piece, Memory>
     requires { 0 < length text.now }
-    ensures { IfOk result (λ piece. piece ≡ text_piece (literal_of (slice_index text.now 0) text.now)) }
+    ensures value { IfOk result (λ piece. piece ≡ text_piece (literal_of (slice_index text.now 0) text.now)) }
+    ensures within { IfOk result (λ piece. IsPiece piece (length text.now)) }
 {
     Ok(match literal_of(alloc, text[0], text)? {
         Literal::Closed(value, len) => Piece::Token(TokenKind::Text(value), len),
@@ -100,20 +121,32 @@ fn quoted(alloc: Global, text: &[u8]) -> Result<Piece, Memory>
     })
 }
 
-/// A name, a keyword or an operator.
-fn word_or_operator(alloc: Global, text: &[u8]) -> Result<Piece, Memory>
-    ensures { IfOk result (λ piece. piece ≡ (if starts_name text.now then name_at (name_len 0 text.now) text.now else operator_at (operator_len text.now) text.now)) }
+fn is_digit(byte: u8) -> bool
+    ensures { result ≡ is_digit byte }
 {
-    if starts_name(text) {
-        name_at(alloc, name_len(text), text)
+    byte >= b'0' && byte < b':'
+}
+
+/// A number, a name, a keyword or an operator.
+fn number_or_word(alloc: Global, text: &[u8]) -> Result<Piece, Memory>
+    requires { 0 < length text.now }
+    ensures value { IfOk result (λ piece. piece ≡ number_or_word (slice_index text.now 0) text.now) }
+    ensures within { IfOk result (λ piece. IsPiece piece (length text.now)) }
+{
+    if is_digit(text[0]) {
+        Ok(number_at(word_len(text), text))
+    } else if starts_name(text) {
+        name_at(alloc, word_len(text), text)
     } else {
         operator_at(alloc, operator_len(text), text)
     }
 }
 
 fn name_at(alloc: Global, len: usize, text: &[u8]) -> Result<Piece, Memory>
-    requires { len ≤ length text.now }
-    ensures { IfOk result (λ piece. piece ≡ name_at len text.now) }
+    requires within { len ≤ length text.now }
+    requires some { 0 < len }
+    ensures value { IfOk result (λ piece. piece ≡ name_at len text.now) }
+    ensures within { IfOk result (λ piece. IsPiece piece (length text.now)) }
 {
     let spelling = &text[..len];
     let word: Spelling = Items::from_slice(alloc, spelling)?;
@@ -127,7 +160,8 @@ fn name_at(alloc: Global, len: usize, text: &[u8]) -> Result<Piece, Memory>
 
 fn operator_at(alloc: Global, len: usize, text: &[u8]) -> Result<Piece, Memory>
     requires { len ≤ length text.now }
-    ensures { IfOk result (λ piece. piece ≡ operator_at len text.now) }
+    ensures value { IfOk result (λ piece. piece ≡ operator_at len text.now) }
+    ensures within { IfOk result (λ piece. IsPiece piece (length text.now)) }
 {
     if len == 0 {
         return Ok(Piece::Bad(LexKind::BadChar, 0));

@@ -1,6 +1,6 @@
 ghost use Rattle.std.specs.Prelude.{◌≡◌, ◌≤◌, ◌<◌, ◌+◌, IfOk, length, true, false};
 ghost use Rattle.std.specs.Prelude.{if◌then◌else◌};
-ghost use Rattle.indent_lexer.specs.Literal.{begins_with_three, hex_escape, escape, closes, part, prefixed, inside, literal_of, IsPart};
+ghost use Rattle.indent_lexer.specs.Literal.{begins_with_three, hex_escape, escape, closes, part, prefixed, inside, literal_of, IsPart, IsLiteral};
 
 use crate::number::digit_value;
 use crate::place::{after, line_end_len};
@@ -124,6 +124,7 @@ fn line_end_part(long: bool, len: usize) -> Part
 pub fn literal_of(alloc: Global, quote: u8, text: &[u8]) -> Result<Literal, Memory>
     requires some { 0 < length text.now }
     ensures value { IfOk result (λ literal. literal ≡ literal_of quote text.now) }
+    ensures within { IfOk result (λ literal. IsLiteral literal (length text.now)) }
 {
     if begins_with_three(quote, text) {
         inside(alloc, quote, true, 3, text)
@@ -135,7 +136,8 @@ pub fn literal_of(alloc: Global, quote: u8, text: &[u8]) -> Result<Literal, Memo
 /// What follows the opening quotes.
 fn inside(alloc: Global, quote: u8, long: bool, opening: usize, text: &[u8]) -> Result<Literal, Memory>
     requires { opening ≤ length text.now }
-    ensures { IfOk result (λ literal. literal ≡ inside quote long opening text.now) }
+    ensures value { IfOk result (λ literal. literal ≡ inside quote long opening text.now) }
+    ensures within { IfOk result (λ literal. IsLiteral literal (length text.now)) }
 {
     let mut value = Vec::new(alloc);
     let mut len = opening;
