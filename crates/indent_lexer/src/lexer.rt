@@ -180,19 +180,28 @@ fn step(alloc: Global, state: &mut State, rest: &[u8], tokens: &mut Tokens) -> R
     match piece_of(alloc, rest)? {
         Piece::Space => {
             let line = after_space(state.line);
-            Ok(pass(state, rest, 1, line))
+            pass(state, rest, 1, line);
+            Ok(1)
         }
         Piece::Tab => {
             let line = after_tab(state.line, state.at);
-            Ok(pass(state, rest, 1, line))
+            pass(state, rest, 1, line);
+            Ok(1)
         }
         Piece::Skip(len) => {
             let line = state.line;
-            Ok(pass(state, rest, len, line))
+            pass(state, rest, len, line);
+            Ok(len)
         }
-        Piece::LineEnd(len) => end_line(state, rest, tokens, len),
+        Piece::LineEnd(len) => {
+            end_line(state, rest, tokens, len)?;
+            Ok(len)
+        }
         Piece::Token(kind, len) => match start_line(&mut state.columns, state.line, state.at, tokens) {
-            Ok(()) => push_token(state, rest, tokens, kind, len),
+            Ok(()) => {
+                push_token(state, rest, tokens, kind, len)?;
+                Ok(len)
+            }
             Err(fault) => Err(fault),
         },
         Piece::Bad(kind, len) => match start_line(&mut state.columns, state.line, state.at, tokens) {
@@ -206,17 +215,15 @@ fn step(alloc: Global, state: &mut State, rest: &[u8], tokens: &mut Tokens) -> R
 }
 
 /// Passes a piece that gives no token.
-fn pass(state: &mut State, rest: &[u8], len: usize, line: Line) -> usize
+fn pass(state: &mut State, rest: &[u8], len: usize, line: Line)
     requires within { len ≤ length rest.now }
     requires place { IsPlace state.old.at (length rest.now) }
-    ensures value { result ≡ len }
     ensures state { state.new ≡ passed state.old rest.now len line }
     ensures place { IsPlace state.new.at (length rest.now - len) }
     ensures start { state.new.at.start ≡ state.old.at.start + len }
 {
     state.at = moved(state.at, &rest[..len]);
     state.line = line;
-    len
 }
 
 fn after_space(line: Line) -> Line
@@ -271,36 +278,38 @@ fn after_line_end(line: Line, depth: u32) -> Line
 }
 
 /// Passes a line end, which may end the logical line.
-fn end_line(state: &mut State, rest: &[u8], tokens: &mut Tokens, len: usize) -> Result<usize, Fault>
+fn end_line(state: &mut State, rest: &[u8], tokens: &mut Tokens, len: usize) -> Result<(), Memory>
     requires within { len ≤ length rest.now }
     requires place { IsPlace state.old.at (length rest.now) }
-    ensures value { IfOk result (λ n. n ≡ len) }
     ensures tokens { OnOk result (tokens.new ≡ tokens.old ++ cond (ends_line state.old.line state.old.depth) (marks state.old.at (TokenKind.Newline ∷ [])) []) }
     ensures state { OnOk result (state.new ≡ passed state.old rest.now len (after_line_end state.old.line state.old.depth)) }
     ensures place { OnOk result (IsPlace state.new.at (length rest.now - len)) }
     ensures start { OnOk result (state.new.at.start ≡ state.old.at.start + len) }
-    ensures memory { IfErr result (λ fault. fault ≡ Fault.Memory) }
 {
     if ends_line(state.line, state.depth) {
         push_mark(tokens, TokenKind::Newline, state.at)?;
     }
     let line = after_line_end(state.line, state.depth);
-    Ok(pass(state, rest, len, line))
+    pass(state, rest, len, line);
+    Ok(())
 }
 
 /// What stands before the first token of a line.
 fn start_line(columns: &mut Columns, line: Line, at: Span, tokens: &mut Tokens) -> Result<(), Fault>
     requires { length columns.old ≤ 1_048_576 }
     ensures ok { OnOk result (HeadGives (head line columns.old at) at columns.new tokens.old tokens.new) }
+    ensures grows { OnOk result (length columns.new ≤ length columns.old + 1) }
     ensures refused { IfErr result (IsHeadFaultOf (head line columns.old at)) }
 {
     match line {
         Line::Within => Ok(()),
-        Line::Lead(_, Some(tab)) => Err(Fault::Refused(LexRefusal {
-            kind: LexKind::Tab,
-            at: tab,
-        })),
-        Line::Lead(spaces, None) => indent(columns, spaces, at, tokens),
+        Line::Lead(spaces, tab) => match tab {
+            Some(at) => Err(Fault::Refused(LexRefusal {
+                kind: LexKind::Tab,
+                at,
+            })),
+            None => indent(columns, spaces, at, tokens),
+        },
     }
 }
 
@@ -308,6 +317,7 @@ fn start_line(columns: &mut Columns, line: Line, at: Span, tokens: &mut Tokens) 
 fn indent(columns: &mut Columns, spaces: u32, at: Span, tokens: &mut Tokens) -> Result<(), Fault>
     requires { length columns.old ≤ 1_048_576 }
     ensures ok { OnOk result (HeadGives (at_column (indentation spaces columns.old) at) at columns.new tokens.old tokens.new) }
+    ensures grows { OnOk result (length columns.new ≤ length columns.old + 1) }
     ensures refused { IfErr result (IsHeadFaultOf (at_column (indentation spaces columns.old) at)) }
 {
     if columns.innermost() < spaces {
@@ -329,23 +339,21 @@ fn indent(columns: &mut Columns, spaces: u32, at: Span, tokens: &mut Tokens) -> 
 fn push_dedents(tokens: &mut Tokens, at: Span, count: usize) -> Result<(), Memory>
     ensures { OnOk result (tokens.new ≡ tokens.old ++ marks at (replicate count TokenKind.Dedent)) }
 {
-    'dedents: for _ in 0..count {
+    'dedents: for n in 0..count {
         push_mark(tokens, TokenKind::Dedent, at)?;
     }
     Ok(())
 }
 
 /// The token that stands here, and what is known after it.
-fn push_token(state: &mut State, rest: &[u8], tokens: &mut Tokens, kind: TokenKind, len: usize) -> Result<usize, Fault>
+fn push_token(state: &mut State, rest: &[u8], tokens: &mut Tokens, kind: TokenKind, len: usize) -> Result<(), Memory>
     requires within { len ≤ length rest.now }
     requires place { IsPlace state.old.at (length rest.now) }
     requires depth { state.old.depth ≤ 1_048_576 }
-    ensures value { IfOk result (λ n. n ≡ len) }
     ensures tokens { OnOk result (tokens.new ≡ tokens.old ++ record { kind = kind; span = state.old.at; len = len } ∷ []) }
     ensures state { OnOk result (state.new ≡ record { at = moved state.old.at (take len rest.now); line = Line.Within; columns = state.old.columns; depth = depth_after kind state.old.depth; raised = raised_after kind state.old.depth state.old.at state.old.raised }) }
     ensures place { OnOk result (IsPlace state.new.at (length rest.now - len)) }
     ensures start { OnOk result (state.new.at.start ≡ state.old.at.start + len) }
-    ensures memory { IfErr result (λ fault. fault ≡ Fault.Memory) }
 {
     state.raised = raised_after(&kind, state.depth, state.at, state.raised);
     state.depth = depth_after(&kind, state.depth);
@@ -354,7 +362,8 @@ fn push_token(state: &mut State, rest: &[u8], tokens: &mut Tokens, kind: TokenKi
         span: state.at,
         len: len as u32,
     })?;
-    Ok(pass(state, rest, len, Line::Within))
+    pass(state, rest, len, Line::Within);
+    Ok(())
 }
 
 fn opens(kind: &TokenKind) -> bool

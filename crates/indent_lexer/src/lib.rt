@@ -6,7 +6,7 @@
 #![tactic(auto)]
 
 mod columns;
-//mod laws;
+mod laws;
 mod lexer;
 mod name;
 mod number;
@@ -16,7 +16,7 @@ mod text;
 mod token;
 mod word;
 
-//LAWS
+pub use laws::at_most_one_reading;
 pub use lexer::lex;
 pub use token::{LexKind, LexRefusal, Token, TokenKind, Tokens};
 
