@@ -10,5 +10,4 @@ pub fn at_most_one_reading()
     ensures list { (b : List ℕ) (t u : List Token) → Tokens b t → Tokens b u → t ≡ u }
     ensures apart { (b : List ℕ) (t : List Token) (r : LexRefusal) → Tokens b t → LexPlace b r → ⊥ }
     ensures refusal { (b : List ℕ) (r s : LexRefusal) → LexPlace b r → LexPlace b s → r ≡ s }
-{
-}
+{}

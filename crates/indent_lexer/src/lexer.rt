@@ -197,14 +197,24 @@ fn step(alloc: Global, state: &mut State, rest: &[u8], tokens: &mut Tokens) -> R
             end_line(state, rest, tokens, len)?;
             Ok(len)
         }
-        Piece::Token(kind, len) => match start_line(&mut state.columns, state.line, state.at, tokens) {
+        Piece::Token(kind, len) => match start_line(
+            &mut state.columns,
+            state.line,
+            state.at,
+            tokens,
+        ) {
             Ok(()) => {
                 push_token(state, rest, tokens, kind, len)?;
                 Ok(len)
             }
             Err(fault) => Err(fault),
         },
-        Piece::Bad(kind, len) => match start_line(&mut state.columns, state.line, state.at, tokens) {
+        Piece::Bad(kind, len) => match start_line(
+            &mut state.columns,
+            state.line,
+            state.at,
+            tokens,
+        ) {
             Ok(()) => Err(Fault::Refused(LexRefusal {
                 kind,
                 at: moved(state.at, &rest[..len]),
@@ -346,7 +356,13 @@ fn push_dedents(tokens: &mut Tokens, at: Span, count: usize) -> Result<(), Memor
 }
 
 /// The token that stands here, and what is known after it.
-fn push_token(state: &mut State, rest: &[u8], tokens: &mut Tokens, kind: TokenKind, len: usize) -> Result<(), Memory>
+fn push_token(
+    state: &mut State,
+    rest: &[u8],
+    tokens: &mut Tokens,
+    kind: TokenKind,
+    len: usize,
+) -> Result<(), Memory>
     requires within { len ≤ length rest.now }
     requires place { IsPlace state.old.at (length rest.now) }
     requires depth { state.old.depth ≤ 1_048_576 }
@@ -421,7 +437,11 @@ fn depth_after(kind: &TokenKind, depth: u32) -> u32
 fn raised_after(kind: &TokenKind, depth: u32, at: Span, raised: Span) -> Span
     ensures { result ≡ raised_after kind.now depth at raised }
 {
-    if opens(kind) && depth == 0 { at } else { raised }
+    if opens(kind) && depth == 0 {
+        at
+    } else {
+        raised
+    }
 }
 
 /// What stands at the end of a text.

@@ -134,7 +134,13 @@ pub fn literal_of(alloc: Global, quote: u8, text: &[u8]) -> Result<Literal, Memo
 }
 
 /// What follows the opening quotes.
-fn inside(alloc: Global, quote: u8, long: bool, opening: usize, text: &[u8]) -> Result<Literal, Memory>
+fn inside(
+    alloc: Global,
+    quote: u8,
+    long: bool,
+    opening: usize,
+    text: &[u8],
+) -> Result<Literal, Memory>
     requires { opening ≤ length text.now }
     ensures value { IfOk result (λ literal. literal ≡ inside quote long opening text.now) }
     ensures within { IfOk result (λ literal. IsLiteral literal (length text.now)) }

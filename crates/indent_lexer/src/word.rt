@@ -4,19 +4,49 @@ ghost use Rattle.std.specs.Str.{bytes_eq};
 ghost use Rattle.indent_lexer.specs.Word.{is_keyword, operator_len, longest_in, fitting_len};
 
 const KEYWORDS: [&[u8]; 35] = [
-    b"False", b"None", b"True", b"and", b"as", b"assert", b"async", b"await", b"break", b"class",
-    b"continue", b"def", b"del", b"elif", b"else", b"except", b"finally", b"for", b"from", b"global",
-    b"if", b"import", b"in", b"is", b"lambda", b"nonlocal", b"not", b"or", b"pass", b"raise",
-    b"return", b"try", b"while", b"with", b"yield",
+    b"False",
+    b"None",
+    b"True",
+    b"and",
+    b"as",
+    b"assert",
+    b"async",
+    b"await",
+    b"break",
+    b"class",
+    b"continue",
+    b"def",
+    b"del",
+    b"elif",
+    b"else",
+    b"except",
+    b"finally",
+    b"for",
+    b"from",
+    b"global",
+    b"if",
+    b"import",
+    b"in",
+    b"is",
+    b"lambda",
+    b"nonlocal",
+    b"not",
+    b"or",
+    b"pass",
+    b"raise",
+    b"return",
+    b"try",
+    b"while",
+    b"with",
+    b"yield",
 ];
 
 /// Operators and delimiters, those of more bytes first.
 const OPERATORS: [&[u8]; 45] = [
-    b"||>", b"...", b"**=", b"//=", b"<<=", b">>=", b"|>", b"**", b"//", b"<<",
-    b">>", b"==", b"!=", b"<=", b">=", b"+=", b"-=", b"*=", b"%=", b"&=",
-    b"|=", b"^=", b"->", b"+", b"-", b"*", b"%", b"&", b"|", b"^",
-    b"~", b"<", b">", b"=", b"(", b")", b"[", b"]", b"{", b"}",
-    b",", b":", b".", b";", b"@",
+    b"||>", b"...", b"**=", b"//=", b"<<=", b">>=", b"|>", b"**", b"//", b"<<", b">>", b"==",
+    b"!=", b"<=", b">=", b"+=", b"-=", b"*=", b"%=", b"&=", b"|=", b"^=", b"->", b"+", b"-", b"*",
+    b"%", b"&", b"|", b"^", b"~", b"<", b">", b"=", b"(", b")", b"[", b"]", b"{", b"}", b",", b":",
+    b".", b";", b"@",
 ];
 
 /// Whether a spelling is a keyword.

@@ -8,10 +8,12 @@ use Rattle.indent_lexer.proofs.lexer.step.Goals as goal
 
 pub returns-in-Space-clause-goes : goal.returns-in-Space-clause-goes
 returns-in-Space-clause-goes c =
-    let s = c.args.state.now in
-    ([], next_of s c.args.rest.now piece.Space c.requires.some (sym c.in-Space.is ∙ c.in_ok-piece_of.ensures.value)
-      ∙ goes_passed s c.pass.new.state c.args.rest.now 1 1 (after_space s.line) c.after_space-line.result c.after_space-line.ensures c.pass.ensures.state refl,
-      sym (append-nil c.args.tokens.now))
+    let s = c.args.state.now in (
+      [],
+      next_of s c.args.rest.now piece.Space c.requires.some (sym c.in-Space.is ∙ c.in_ok-piece_of.ensures.value)
+          ∙ goes_passed s c.pass.new.state c.args.rest.now 1 1 (after_space s.line) c.after_space-line.result c.after_space-line.ensures c.pass.ensures.state refl,
+      sym (append-nil c.args.tokens.now),
+    )
 
 pub returns-in-Space-clause-state : goal.returns-in-Space-clause-state
 returns-in-Space-clause-state c =
@@ -23,10 +25,12 @@ returns-in-Space-clause-state c =
 
 pub returns-in-Tab-clause-goes : goal.returns-in-Tab-clause-goes
 returns-in-Tab-clause-goes c =
-    let s = c.args.state.now in
-    ([], next_of s c.args.rest.now piece.Tab c.requires.some (sym c.in-Tab.is ∙ c.in_ok-piece_of.ensures.value)
-      ∙ goes_passed s c.pass-in-Tab.new.state c.args.rest.now 1 1 (after_tab s.line s.at) c.after_tab-line.result c.after_tab-line.ensures c.pass-in-Tab.ensures.state refl,
-      sym (append-nil c.args.tokens.now))
+    let s = c.args.state.now in (
+      [],
+      next_of s c.args.rest.now piece.Tab c.requires.some (sym c.in-Tab.is ∙ c.in_ok-piece_of.ensures.value)
+          ∙ goes_passed s c.pass-in-Tab.new.state c.args.rest.now 1 1 (after_tab s.line s.at) c.after_tab-line.result c.after_tab-line.ensures c.pass-in-Tab.ensures.state refl,
+      sym (append-nil c.args.tokens.now),
+    )
 
 pub returns-in-Tab-clause-state : goal.returns-in-Tab-clause-state
 returns-in-Tab-clause-state c =
@@ -38,10 +42,12 @@ returns-in-Tab-clause-state c =
 
 pub returns-in-Skip-clause-goes : goal.returns-in-Skip-clause-goes
 returns-in-Skip-clause-goes c =
-    let s = c.args.state.now in
-    ([], next_of s c.args.rest.now (piece.Skip c.in-Skip.len) c.requires.some (sym c.in-Skip.is ∙ c.in_ok-piece_of.ensures.value)
-      ∙ goes_passed s c.pass-in-Skip.new.state c.args.rest.now c.in-Skip.len c.in-Skip.len s.line s.line refl c.pass-in-Skip.ensures.state refl,
-      sym (append-nil c.args.tokens.now))
+    let s = c.args.state.now in (
+      [],
+      next_of s c.args.rest.now (piece.Skip c.in-Skip.len) c.requires.some (sym c.in-Skip.is ∙ c.in_ok-piece_of.ensures.value)
+          ∙ goes_passed s c.pass-in-Skip.new.state c.args.rest.now c.in-Skip.len c.in-Skip.len s.line s.line refl c.pass-in-Skip.ensures.state refl,
+      sym (append-nil c.args.tokens.now),
+    )
 
 pub returns-in_ok-end_line-in-LineEnd-clause-state : goal.returns-in_ok-end_line-in-LineEnd-clause-state
 returns-in_ok-end_line-in-LineEnd-clause-state c =

@@ -10,9 +10,9 @@ pieces-preserved c =
       reads = reads_on (first_state b) (drop (mark_len b) b) c.pieces.state c.step.new.state c.pieces.rest.now c.after-rest-in-Ok.result.now c.pieces.tokens c.step.new.tokens c.in-Ok.len c.pieces.invariant.reads c.in-Ok.ensures.goes c.after-rest-in-Ok.ensures.value;
       fails = fails_on (first_state b) (drop (mark_len b) b) c.pieces.state c.step.new.state c.pieces.rest.now c.after-rest-in-Ok.result.now c.pieces.tokens c.step.new.tokens c.in-Ok.len c.pieces.invariant.fails c.in-Ok.ensures.goes c.after-rest-in-Ok.ensures.value;
       state =
-        let P : ℕ → Type 0 = λ z. IsState c.step.new.state z in
-        let e : length c.pieces.rest.now - c.in-Ok.len ≡ length c.after-rest-in-Ok.result.now = omega arith in
-        subst P e c.in-Ok.ensures.state;
+          let P : ℕ → Type 0 = λ z. IsState c.step.new.state z in
+          let e : length c.pieces.rest.now - c.in-Ok.len ≡ length c.after-rest-in-Ok.result.now = omega arith in
+          subst P e c.in-Ok.ensures.state;
     }
 
 pub returns-in-Err-clause-refusal : goal.returns-in-Err-clause-refusal
