@@ -5,10 +5,10 @@ use Rattle.codon_base.specs.declared.source.Span.{Span}
 use Rattle.indent_lexer.specs.declared.token.Token.{Token}
 use Rattle.indent_lexer.specs.declared.token.LexKind.{LexKind}
 use Rattle.indent_lexer.specs.declared.piece.Piece.{Piece}
-use Rattle.indent_lexer.specs.declared.lexer.Line.{Line}
+use Rattle.indent_lexer.specs.declared.line.Line.{Line}
 use Rattle.indent_lexer.specs.declared.lexer.State.{State}
-use Rattle.indent_lexer.specs.declared.lexer.Fault.{Fault}
-use Rattle.indent_lexer.specs.declared.lexer.Fault.TheVariants as fault
+use Rattle.indent_lexer.specs.declared.fault.Fault.{Fault}
+use Rattle.indent_lexer.specs.declared.fault.Fault.TheVariants as fault
 use Rattle.indent_lexer.specs.Piece.{piece_of}
 use Rattle.indent_lexer.specs.Tokens.{Next, Goes, Ends, Stops, Lexes, ends, goes, Fails, here, later, next, at_end, by_piece, passed, GoesOn, EndsWith, IsStopOf, IsFaultOf, first_state, mark_len}
 

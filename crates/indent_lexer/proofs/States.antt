@@ -4,8 +4,8 @@ use Rattle.std.proofs.lemmas.Bool.{lt-ltb}
 use Rattle.codon_base.specs.declared.source.Span.{Span}
 use Rattle.indent_lexer.specs.declared.token.TokenKind.{TokenKind}
 use Rattle.indent_lexer.specs.declared.token.TokenKind.TheVariants.{Indent}
-use Rattle.indent_lexer.specs.declared.lexer.Line.{Line}
-use Rattle.indent_lexer.specs.declared.lexer.Line.TheVariants.{Lead, Within}
+use Rattle.indent_lexer.specs.declared.line.Line.{Line}
+use Rattle.indent_lexer.specs.declared.line.Line.TheVariants.{Lead, Within}
 use Rattle.indent_lexer.specs.declared.lexer.State.{State}
 use Rattle.indent_lexer.specs.Place.{moved, IsPlace}
 use Rattle.indent_lexer.specs.Indentation.{indentation, innermost}

@@ -12,11 +12,11 @@ use Rattle.indent_lexer.specs.declared.token.TokenKind.{TokenKind}
 use Rattle.indent_lexer.specs.declared.token.TokenKind.TheVariants as kind
 use Rattle.indent_lexer.specs.declared.piece.Piece.{Piece}
 use Rattle.indent_lexer.specs.declared.piece.Piece.TheVariants as piece
-use Rattle.indent_lexer.specs.declared.lexer.Line.{Line}
-use Rattle.indent_lexer.specs.declared.lexer.Line.TheVariants.{Lead, Within}
+use Rattle.indent_lexer.specs.declared.line.Line.{Line}
+use Rattle.indent_lexer.specs.declared.line.Line.TheVariants.{Lead, Within}
 use Rattle.indent_lexer.specs.declared.lexer.State.{State}
-use Rattle.indent_lexer.specs.declared.lexer.Fault.{Fault}
-use Rattle.indent_lexer.specs.declared.lexer.Fault.TheVariants as fault
+use Rattle.indent_lexer.specs.declared.fault.Fault.{Fault}
+use Rattle.indent_lexer.specs.declared.fault.Fault.TheVariants as fault
 use Rattle.indent_lexer.specs.Place.{moved, IsPlace}
 use Rattle.indent_lexer.specs.Piece.{piece_of}
 use Rattle.indent_lexer.specs.Indentation.{indentation}

@@ -3,24 +3,19 @@ ghost use Rattle.indent_lexer.specs.Tokens.{Tokens, IsRefusalOf, AreTokens, IsFa
 ghost use Rattle.indent_lexer.specs.Place.{IsPlace, moved};
 ghost use Rattle.indent_lexer.specs.Indentation.{indentation};
 
-use crate::columns::{Columns, leave};
+use crate::brackets::{depth_after, raised_after};
+use crate::columns::Columns;
+use crate::fault::Fault;
+use crate::line::{Line, after_line_end, after_space, after_tab, ends_line};
+use crate::marks::{push_last, push_mark, start_line};
 use crate::piece::{Piece, piece_of};
 use crate::place::{after, moved};
 use crate::token::{LexKind, LexRefusal, Token, TokenKind, Tokens};
 use codon_base::{Memory, Or, Span};
 use sqlite_items::Items;
-use std::alloc::{AllocError, Global};
+use std::alloc::Global;
 
 const MAX_BYTES: usize = 1_048_576;
-
-/// Where in a logical line a place stands.
-#[derive(Clone, Copy, Debug, PartialEq, Eq)]
-pub enum Line {
-    /// Before its first token: how many spaces were met, and the first tab.
-    Lead(u32, Option<Span>),
-    /// After its first token.
-    Within,
-}
 
 /// What is known at a place of a text from the text before it.
 #[derive(Debug, Drop)]
@@ -62,35 +57,6 @@ pub fn lex(alloc: Global, bytes: &[u8]) -> Result<Tokens, Or<LexRefusal>>
             kind: LexKind::NotUtf8,
             at: place_at(bytes, fault.valid_up_to()),
         })),
-    }
-}
-
-/// Why reading ends early.
-#[derive(Clone, Copy, Debug, PartialEq, Eq)]
-pub enum Fault {
-    Refused(LexRefusal),
-    Memory,
-}
-
-impl From<Memory> for Fault {
-    ghost use Rattle.std.specs.Prelude.{◌≡◌};
-    ghost use Rattle.indent_lexer.specs.declared.lexer.Fault.TheVariants.{Memory};
-
-    ghost from_gives = { λ _ e. e ≡ Memory };
-
-    fn from(_: Memory) -> Fault {
-        Fault::Memory
-    }
-}
-
-impl From<AllocError> for Fault {
-    ghost use Rattle.std.specs.Prelude.{◌≡◌};
-    ghost use Rattle.indent_lexer.specs.declared.lexer.Fault.TheVariants.{Memory};
-
-    ghost from_gives = { λ _ e. e ≡ Memory };
-
-    fn from(_: AllocError) -> Fault {
-        Fault::Memory
     }
 }
 
@@ -236,57 +202,6 @@ fn pass(state: &mut State, rest: &[u8], len: usize, line: Line)
     state.line = line;
 }
 
-fn after_space(line: Line) -> Line
-    requires { spaces_of line ≤ 1_048_576 }
-    ensures { result ≡ after_space line }
-{
-    match line {
-        Line::Lead(spaces, tab) => Line::Lead(spaces + 1, tab),
-        Line::Within => Line::Within,
-    }
-}
-
-fn after_tab(line: Line, at: Span) -> Line
-    ensures { result ≡ after_tab line at }
-{
-    match line {
-        Line::Lead(spaces, None) => Line::Lead(spaces, Some(at)),
-        Line::Lead(spaces, Some(before)) => Line::Lead(spaces, Some(before)),
-        Line::Within => Line::Within,
-    }
-}
-
-/// A token without a spelling.
-fn push_mark(tokens: &mut Tokens, kind: TokenKind, at: Span) -> Result<(), Memory>
-    ensures { OnOk result (tokens.new ≡ tokens.old ++ record { kind = kind; span = at; len = 0 } ∷ []) }
-{
-    tokens.push(Token {
-        kind,
-        span: at,
-        len: 0,
-    })?;
-    Ok(())
-}
-
-fn ends_line(line: Line, depth: u32) -> bool
-    ensures { result ≡ ends_line line depth }
-{
-    match line {
-        Line::Lead(_, _) => false,
-        Line::Within => depth == 0,
-    }
-}
-
-fn after_line_end(line: Line, depth: u32) -> Line
-    ensures { result ≡ after_line_end line depth }
-{
-    match line {
-        Line::Lead(_, _) => Line::Lead(0, None),
-        Line::Within if depth == 0 => Line::Lead(0, None),
-        Line::Within => Line::Within,
-    }
-}
-
 /// Passes a line end, which may end the logical line.
 fn end_line(state: &mut State, rest: &[u8], tokens: &mut Tokens, len: usize) -> Result<(), Memory>
     requires within { len ≤ length rest.now }
@@ -301,57 +216,6 @@ fn end_line(state: &mut State, rest: &[u8], tokens: &mut Tokens, len: usize) -> 
     }
     let line = after_line_end(state.line, state.depth);
     pass(state, rest, len, line);
-    Ok(())
-}
-
-/// What stands before the first token of a line.
-fn start_line(columns: &mut Columns, line: Line, at: Span, tokens: &mut Tokens) -> Result<(), Fault>
-    requires { length columns.old ≤ 1_048_576 }
-    ensures ok { OnOk result (HeadGives (head line columns.old at) at columns.new tokens.old tokens.new) }
-    ensures grows { OnOk result (length columns.new ≤ length columns.old + 1) }
-    ensures refused { IfErr result (IsHeadFaultOf (head line columns.old at)) }
-{
-    match line {
-        Line::Within => Ok(()),
-        Line::Lead(spaces, tab) => match tab {
-            Some(at) => Err(Fault::Refused(LexRefusal {
-                kind: LexKind::Tab,
-                at,
-            })),
-            None => indent(columns, spaces, at, tokens),
-        },
-    }
-}
-
-/// Compares the column of a line with those of the blocks.
-fn indent(columns: &mut Columns, spaces: u32, at: Span, tokens: &mut Tokens) -> Result<(), Fault>
-    requires { length columns.old ≤ 1_048_576 }
-    ensures ok { OnOk result (HeadGives (at_column (indentation spaces columns.old) at) at columns.new tokens.old tokens.new) }
-    ensures grows { OnOk result (length columns.new ≤ length columns.old + 1) }
-    ensures refused { IfErr result (IsHeadFaultOf (at_column (indentation spaces columns.old) at)) }
-{
-    if columns.innermost() < spaces {
-        columns.push(spaces)?;
-        push_mark(tokens, TokenKind::Indent, at)?;
-        return Ok(());
-    }
-    let count = leave(columns, spaces);
-    if columns.innermost() != spaces {
-        return Err(Fault::Refused(LexRefusal {
-            kind: LexKind::BadDedent,
-            at,
-        }));
-    }
-    push_dedents(tokens, at, count)?;
-    Ok(())
-}
-
-fn push_dedents(tokens: &mut Tokens, at: Span, count: usize) -> Result<(), Memory>
-    ensures { OnOk result (tokens.new ≡ tokens.old ++ marks at (replicate count TokenKind.Dedent)) }
-{
-    'dedents: for n in 0..count {
-        push_mark(tokens, TokenKind::Dedent, at)?;
-    }
     Ok(())
 }
 
@@ -382,68 +246,6 @@ fn push_token(
     Ok(())
 }
 
-fn opens(kind: &TokenKind) -> bool
-    ensures { result ≡ opens kind.now }
-{
-    match kind {
-        TokenKind::Op(spelling) => is_opening(spelling.as_slice()),
-        _ => false,
-    }
-}
-
-fn closes(kind: &TokenKind) -> bool
-    ensures { result ≡ closes kind.now }
-{
-    match kind {
-        TokenKind::Op(spelling) => is_closing(spelling.as_slice()),
-        _ => false,
-    }
-}
-
-fn is_opening(spelling: &[u8]) -> bool
-    ensures { result ≡ is_opening spelling.now }
-{
-    match spelling {
-        [byte] => *byte == b'(' || *byte == b'[' || *byte == b'{',
-        _ => false,
-    }
-}
-
-fn is_closing(spelling: &[u8]) -> bool
-    ensures { result ≡ is_closing spelling.now }
-{
-    match spelling {
-        [byte] => *byte == b')' || *byte == b']' || *byte == b'}',
-        _ => false,
-    }
-}
-
-/// How many brackets are open after a token.
-fn depth_after(kind: &TokenKind, depth: u32) -> u32
-    requires { depth ≤ 1_048_576 }
-    ensures value { result ≡ depth_after kind.now depth }
-    ensures one { result ≤ depth + 1 }
-{
-    if opens(kind) {
-        depth + 1
-    } else if closes(kind) {
-        depth.saturating_sub(1)
-    } else {
-        depth
-    }
-}
-
-/// The bracket that last raised the depth from 0, after a token.
-fn raised_after(kind: &TokenKind, depth: u32, at: Span, raised: Span) -> Span
-    ensures { result ≡ raised_after kind.now depth at raised }
-{
-    if opens(kind) && depth == 0 {
-        at
-    } else {
-        raised
-    }
-}
-
 /// What stands at the end of a text.
 fn finish(state: &State, tokens: &mut Tokens) -> Result<(), Fault>
     ensures ends { OnOk result (EndsWith (at_end state.now) tokens.old tokens.new) }
@@ -457,22 +259,4 @@ fn finish(state: &State, tokens: &mut Tokens) -> Result<(), Fault>
     }
     push_last(state.line, state.at, state.columns.len(), tokens)?;
     Ok(())
-}
-
-/// The last tokens of a text.
-fn push_last(line: Line, at: Span, blocks: usize, tokens: &mut Tokens) -> Result<(), Memory>
-    ensures { OnOk result (tokens.new ≡ tokens.old ++ marks at (last_newline line ++ (replicate blocks TokenKind.Dedent ++ TokenKind.End ∷ []))) }
-{
-    push_last_newline(line, at, tokens)?;
-    push_dedents(tokens, at, blocks)?;
-    push_mark(tokens, TokenKind::End, at)
-}
-
-fn push_last_newline(line: Line, at: Span, tokens: &mut Tokens) -> Result<(), Memory>
-    ensures { OnOk result (tokens.new ≡ tokens.old ++ marks at (last_newline line)) }
-{
-    match line {
-        Line::Lead(_, _) => Ok(()),
-        Line::Within => push_mark(tokens, TokenKind::Newline, at),
-    }
 }

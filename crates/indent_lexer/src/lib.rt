@@ -5,9 +5,13 @@
 //! above tokens.
 #![tactic(auto)]
 
+mod brackets;
 mod columns;
+mod fault;
 mod laws;
 mod lexer;
+mod line;
+mod marks;
 mod name;
 mod number;
 mod piece;

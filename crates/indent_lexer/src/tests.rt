@@ -103,6 +103,8 @@ fn the_longest_text(rt: HostRuntime) -> Result<(), Fail> {
         text.as_slice(),
         b"end 1:1048577 1048576+0 ".as_slice(),
     )?;
+    text.push(b'\n')?;
+    shows(&rt, alloc, text.as_slice(), b"L8 1:1 0".as_slice())?;
     let mut long: Vec<u8> = Vec::new(alloc);
     long.resize(1_048_577, 0xff)?;
     shows(&rt, alloc, long.as_slice(), b"L8 1:1 0".as_slice())?;

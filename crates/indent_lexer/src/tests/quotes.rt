@@ -92,3 +92,27 @@ fn reads_places(rt: HostRuntime) -> Result<(), Fail> {
     }
     Ok(())
 }
+
+#[test]
+fn refuses_sources(rt: HostRuntime) -> Result<(), Fail> {
+    for (text, want) in [
+        (b"x\xff".as_slice(), b"L1 1:2 1".as_slice()),
+        (b"x = 6 / 2".as_slice(), b"L2 1:7 6".as_slice()),
+        (b"if True:\n\tpass".as_slice(), b"L3 2:1 9".as_slice()),
+        (
+            b"if True:\n    pass\n  pass".as_slice(),
+            b"L4 3:3 20".as_slice(),
+        ),
+        (b"x = 1.5".as_slice(), b"L5 1:5 4".as_slice()),
+        (
+            b"x = 9223372036854775808".as_slice(),
+            b"L5 1:5 4".as_slice(),
+        ),
+        (b"x = 'ab".as_slice(), b"L6 1:5 4".as_slice()),
+        (b"x = '\xc3\xa9'".as_slice(), b"L7 1:6 5".as_slice()),
+        (b"print((1".as_slice(), b"L9 1:6 5".as_slice()),
+    ] {
+        shows(&rt, rt.alloc(), text, want)?;
+    }
+    Ok(())
+}

@@ -2,7 +2,7 @@ use Rattle.std.proofs.Common.{◌≡◌, [], ◌∷◌, refl, arith}
 use Rattle.std.specs.Prelude.{length}
 use Rattle.indent_lexer.specs.declared.token.TokenKind.TheVariants.{Indent}
 use Rattle.indent_lexer.proofs.States.{indent_is}
-use Rattle.indent_lexer.proofs.lexer.indent.Goals as goal
+use Rattle.indent_lexer.proofs.marks.indent.Goals as goal
 
 pub returns-then-innermost-spaces-clause-ok : goal.returns-then-innermost-spaces-clause-ok
 returns-then-innermost-spaces-clause-ok c =
