@@ -1,5 +1,5 @@
 -- A text that begins with none of the other pieces begins with a number, a word or an operator.
-use Rattle.std.proofs.Common.{◌≡◌, ◌≢◌, ℕ, ◌<◌, List, [], ◌∷◌, Bool, true, false, nat_eq, length, slice_index, refl, sym, ◌∙◌, ap, arith}
+use Rattle.std.proofs.Common.{◌≡◌, ◌≢◌, ℕ, ◌<◌, List, [], ◌∷◌, Bool, true, false, nat_eq, length, slice_index, refl, arith}
 use Rattle.std.proofs.lemmas.Bool.{eqb-true}
 use Rattle.indent_lexer.specs.Piece.{piece_of, number_or_word, is_line_end, is_quote}
 

@@ -1,8 +1,7 @@
 -- What a text in quotes is read as, part by part. Bytes of a part that are still to come are passed, and what
 -- stands before a place is put before what follows it.
 use Rattle.std.proofs.Common.{◌≡◌, ℕ, zero, suc, ◌+◌, ◌-◌, ◌<◌, ◌≤◌, List, [], ◌∷◌, ◌++◌, Bool, drop, length, refl, sym, ◌∙◌, ap, arith, append_assoc}
-use Rattle.indent_lexer.specs.declared.text.Part.{Part}
-use Rattle.indent_lexer.specs.declared.text.Part.TheVariants.{Holds, Joins, Closes, Open, Fault}
+use Rattle.indent_lexer.specs.declared.text.Part.TheVariants.{Holds, Joins}
 use Rattle.indent_lexer.specs.declared.text.Literal.{Literal}
 use Rattle.indent_lexer.specs.declared.text.Literal.TheVariants as literal
 use Rattle.indent_lexer.specs.Literal.{part, prefixed, inside, from_part}

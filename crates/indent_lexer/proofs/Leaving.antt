@@ -1,6 +1,6 @@
 -- A line that leaves the innermost column leaves one more than it leaves of the others.
-use Rattle.std.proofs.Common.{◌≡◌, ℕ, suc, ◌+◌, ◌<◌, List, [], ◌∷◌, Bool, true, false, not, nat_lt, drop, length, refl, sym, ◌∙◌, ap, arith}
-use Rattle.std.proofs.lemmas.Bool.{ltb-true, lt-ltb}
+use Rattle.std.proofs.Common.{◌≡◌, ℕ, suc, ◌<◌, List, [], ◌∷◌, true, nat_lt, drop, length, refl, ap, arith}
+use Rattle.std.proofs.lemmas.Bool.{lt-ltb}
 use Rattle.indent_lexer.specs.Indentation.{innermost, left_by}
 
 pub left_by_next : (column : ℕ) (cs : List ℕ) → column < innermost cs → left_by column cs ≡ suc (left_by column (drop 1 cs))

@@ -1,14 +1,14 @@
 -- A text has one reading: what comes next at a place is a function of the state and of the text, so two readings
 -- agree piece by piece.
-use Rattle.std.proofs.Common.{◌≡◌, ℕ, ◌+◌, ◌-◌, ◌<◌, ◌≤◌, Bool, true, false, nat_lt, List, [], ◌∷◌, ◌++◌, drop, take, length, refl, sym, ◌∙◌, ap, subst, arith, ◌⊎◌, inl, inr}
+use Rattle.std.proofs.Common.{◌≡◌, ℕ, Bool, true, false, nat_lt, List, drop, refl, sym, ◌∙◌, ap, subst, arith, inl, inr}
 use Rattle.std.proofs.lemmas.Bool.{ltb-true, ltb-false}
-use Rattle.std.specs.Str.{IsUtf8, IsValidUpTo}
+use Rattle.std.specs.Str.{IsValidUpTo}
 use Rattle.codon_base.specs.declared.source.Span.{Span}
 use Rattle.indent_lexer.specs.declared.token.Token.{Token}
 use Rattle.indent_lexer.specs.declared.token.LexKind.{LexKind}
 use Rattle.indent_lexer.specs.declared.token.LexRefusal.{LexRefusal}
 use Rattle.indent_lexer.specs.declared.lexer.State.{State}
-use Rattle.indent_lexer.specs.Tokens.{Next, Goes, Ends, Stops, Lexes, ends, goes, Fails, here, later, next, first_state, mark_len, Tokens, LexPlace, place_at, IsRefusedAt, IsNotUtf8At}
+use Rattle.indent_lexer.specs.Tokens.{Goes, Ends, Stops, Lexes, ends, goes, Fails, here, later, first_state, mark_len, Tokens, LexPlace, place_at}
 
 pub one_list : (s : State) (text : List ℕ) (a : List Token) → Lexes s text a → (b : List Token) → Lexes s text b → a ≡ b
 one_list _ _ _ (ends s text out e) _ (ends _ _ out' f) = let g : Ends out ≡ Ends out' = sym e ∙ f in cc

@@ -1,6 +1,6 @@
 -- What is read of a text piece by piece is read of the whole: each step hands on that the tokens after it
 -- complete those before it, and that a refusal after it is the whole text's.
-use Rattle.std.proofs.Common.{◌≡◌, ℕ, ◌<◌, List, [], ◌∷◌, ◌++◌, drop, length, refl, sym, ◌∙◌, ap, subst, arith, append_assoc}
+use Rattle.std.proofs.Common.{◌≡◌, ℕ, ◌<◌, List, [], ◌∷◌, ◌++◌, drop, length, sym, ◌∙◌, ap, subst, arith, append_assoc}
 use Rattle.codon_base.specs.declared.source.Span.{Span}
 use Rattle.indent_lexer.specs.declared.token.Token.{Token}
 use Rattle.indent_lexer.specs.declared.token.LexKind.{LexKind}
@@ -10,7 +10,7 @@ use Rattle.indent_lexer.specs.declared.lexer.State.{State}
 use Rattle.indent_lexer.specs.declared.fault.Fault.{Fault}
 use Rattle.indent_lexer.specs.declared.fault.Fault.TheVariants as fault
 use Rattle.indent_lexer.specs.Piece.{piece_of}
-use Rattle.indent_lexer.specs.Tokens.{Next, Goes, Ends, Stops, Lexes, ends, goes, Fails, here, later, next, at_end, by_piece, passed, GoesOn, EndsWith, IsStopOf, IsFaultOf, first_state, mark_len}
+use Rattle.indent_lexer.specs.Tokens.{Goes, Lexes, ends, goes, Fails, here, later, next, at_end, by_piece, passed, GoesOn, EndsWith, IsStopOf, IsFaultOf, first_state, mark_len}
 
 pub next_of : (s : State) (text : List ℕ) (p : Piece) → 0 < length text → p ≡ piece_of text → next s text ≡ by_piece s text p
 next_of s [] p h e = absurd (omega arith)

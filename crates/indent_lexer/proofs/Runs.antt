@@ -1,5 +1,5 @@
 -- The name characters of a text, passed in two parts.
-use Rattle.std.proofs.Common.{◌≡◌, ℕ, zero, suc, ◌+◌, ◌≤◌, ◌<◌, min, List, [], ◌∷◌, drop, length, slice_index, refl, sym, ◌∙◌, ap, arith}
+use Rattle.std.proofs.Common.{◌≡◌, ℕ, zero, suc, ◌+◌, ◌<◌, min, List, [], ◌∷◌, drop, length, slice_index, refl, ◌∙◌, ap, arith}
 use Rattle.std.specs.Str.{continuation_len}
 use Rattle.indent_lexer.specs.Name.{name_len, word_len}
 

@@ -1,5 +1,5 @@
 -- Spaces, brackets and columns are at most as many as the bytes before a place.
-use Rattle.std.proofs.Common.{◌≡◌, ℕ, ◌+◌, ◌-◌, ◌<◌, ◌≤◌, List, [], ◌∷◌, Bool, true, false, cond, nat_eq, nat_lt, length, take, refl, sym, ◌∙◌, ap, arith, Option}
+use Rattle.std.proofs.Common.{◌≡◌, ℕ, ◌+◌, ◌-◌, ◌<◌, ◌≤◌, List, [], ◌∷◌, Bool, true, false, cond, nat_eq, length, refl, ap, arith}
 use Rattle.std.proofs.lemmas.Bool.{lt-ltb}
 use Rattle.codon_base.specs.declared.source.Span.{Span}
 use Rattle.indent_lexer.specs.declared.token.TokenKind.{TokenKind}
@@ -7,9 +7,9 @@ use Rattle.indent_lexer.specs.declared.token.TokenKind.TheVariants.{Indent}
 use Rattle.indent_lexer.specs.declared.line.Line.{Line}
 use Rattle.indent_lexer.specs.declared.line.Line.TheVariants.{Lead, Within}
 use Rattle.indent_lexer.specs.declared.lexer.State.{State}
-use Rattle.indent_lexer.specs.Place.{moved, IsPlace}
+use Rattle.indent_lexer.specs.Place.{IsPlace}
 use Rattle.indent_lexer.specs.Indentation.{indentation, innermost}
-use Rattle.indent_lexer.specs.Tokens.{passed, after_space, after_tab, after_line_end, depth_after, raised_after, opens, closes, spaces_of, new_line, IsState, at_column, Stands}
+use Rattle.indent_lexer.specs.Tokens.{passed, after_space, after_tab, after_line_end, depth_after, opens, closes, spaces_of, new_line, IsState, at_column, Stands}
 
 pub passed_state : (s s' : State) (text : List ℕ) (len left : ℕ) (line : Line) → IsState s left → s' ≡ passed s text len line → IsPlace s'.at (left - len) → s'.at.start ≡ s.at.start + len → spaces_of line ≤ s.at.start + len → IsState s' (left - len)
 passed_state s s' text len left line i e p a l = record {

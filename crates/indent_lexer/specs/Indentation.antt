@@ -1,6 +1,6 @@
 -- Indentation: the columns at which blocks stand, the innermost first (Python reference, 2.1.8). The column 0
 -- of the module stands below all of them and is not kept.
-use Rattle.std.specs.Prelude.{ℕ, zero, suc, ◌+◌, List, [], ◌∷◌, Option, Some, None, Bool, true, false, if◌then◌else◌, nat_eq, nat_lt, not, drop, replicate}
+use Rattle.std.specs.Prelude.{ℕ, List, [], ◌∷◌, Option, Some, None, if◌then◌else◌, nat_eq, nat_lt, not, drop, replicate}
 use Rattle.std.specs.List.{position_or_len}
 use Rattle.indent_lexer.specs.declared.token.TokenKind.{TokenKind}
 use Rattle.indent_lexer.specs.declared.token.TokenKind.TheVariants.{Indent, Dedent}

@@ -6,7 +6,7 @@ use Rattle.indent_lexer.specs.declared.text.Part.{Part}
 use Rattle.indent_lexer.specs.declared.text.Part.TheVariants.{Holds, Joins, Closes, Open, Fault}
 use Rattle.indent_lexer.specs.declared.text.Literal.{Literal}
 use Rattle.indent_lexer.specs.declared.text.Literal.TheVariants as literal
-use Rattle.indent_lexer.specs.Place.{line_end_len, begins_with}
+use Rattle.indent_lexer.specs.Place.{line_end_len}
 
 -- three of the quote in a row
 abbrev pub begins_with_three : ℕ → List ℕ → Bool

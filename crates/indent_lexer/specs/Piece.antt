@@ -1,5 +1,5 @@
 -- The piece that a text begins with: a token, or what stands between tokens.
-use Rattle.std.specs.Prelude.{ℕ, ℤ, zero, suc, ◌+◌, List, [], ◌∷◌, Option, Some, None, Bool, true, false, ◌&&◌, ◌||◌, not, if◌then◌else◌, nat_eq, nat_lt, nat_le, length, take, drop, ◌<◌, ◌≤◌}
+use Rattle.std.specs.Prelude.{ℕ, ℤ, zero, suc, ◌+◌, List, [], ◌∷◌, Option, Some, None, Bool, ◌&&◌, ◌||◌, if◌then◌else◌, nat_eq, nat_lt, nat_le, take, drop, ◌<◌, ◌≤◌}
 use Rattle.std.specs.List.{position_or_len}
 use Rattle.indent_lexer.specs.declared.token.LexKind.TheVariants.{BadChar, BadNumber, OpenString}
 use Rattle.indent_lexer.specs.declared.token.TokenKind.{TokenKind}

@@ -1,5 +1,5 @@
 -- Keywords, operators and delimiters (Python reference, 2.3.1, 2.5 and 2.6).
-use Rattle.std.specs.Prelude.{ℕ, List, [], ◌∷◌, Bool, true, false, cond, max, length, codes}
+use Rattle.std.specs.Prelude.{ℕ, List, [], ◌∷◌, Bool, cond, max, length, codes}
 use Rattle.std.specs.List.{list_any, starts_with}
 use Rattle.std.specs.Str.{bytes_eq}
 use Rattle.std.specs.Prelude.{nat_eq}

@@ -1,4 +1,4 @@
-use Rattle.std.proofs.Common.{◌≡◌, ◌<◌, ◌+◌, length, drop, arith, ap, ◌∙◌, sym}
+use Rattle.std.proofs.Common.{◌≡◌, ◌<◌, length, drop, arith, ap, ◌∙◌, sym}
 use Rattle.indent_lexer.specs.Indentation.{innermost, left_by}
 use Rattle.indent_lexer.proofs.Leaving.{left_by_next, length_next, drop_next}
 use Rattle.indent_lexer.proofs.columns.leave.Goals as goal

@@ -1,9 +1,9 @@
-use Rattle.std.proofs.Common.{◌≡◌, ℕ, ◌+◌, ◌-◌, ◌<◌, ◌≤◌, ◌++◌, List, [], ◌∷◌, length, refl, sym, ◌∙◌, ap, arith}
+use Rattle.std.proofs.Common.{◌≡◌, [], length, refl, sym, ◌∙◌, ap, arith}
 use Rattle.std.proofs.lemmas.List.{append-nil}
 use Rattle.indent_lexer.specs.declared.piece.Piece.TheVariants as piece
 use Rattle.indent_lexer.specs.Tokens.{after_space, after_tab, after_line_end, spaces_of}
 use Rattle.indent_lexer.proofs.Reading.{next_of, goes_passed}
-use Rattle.indent_lexer.proofs.States.{passed_state, token_state, spaces_after_space, spaces_after_tab, spaces_after_line_end}
+use Rattle.indent_lexer.proofs.States.{passed_state, spaces_after_space, spaces_after_tab, spaces_after_line_end}
 use Rattle.indent_lexer.proofs.lexer.step.Goals as goal
 
 pub returns-in-Space-clause-goes : goal.returns-in-Space-clause-goes

@@ -1,4 +1,4 @@
-use Rattle.std.proofs.Common.{◌≡◌, ◌++◌, List, length, drop}
+use Rattle.std.proofs.Common.{◌++◌, List, length, drop}
 use Rattle.codon_base.specs.declared.source.Span.{Span}
 use Rattle.indent_lexer.specs.declared.token.Token.{Token}
 use Rattle.indent_lexer.specs.declared.token.LexKind.{LexKind}

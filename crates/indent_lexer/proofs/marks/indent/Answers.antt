@@ -1,5 +1,4 @@
-use Rattle.std.proofs.Common.{◌≡◌, [], ◌∷◌, refl, arith}
-use Rattle.std.specs.Prelude.{length}
+use Rattle.std.proofs.Common.{[], ◌∷◌, arith}
 use Rattle.indent_lexer.specs.declared.token.TokenKind.TheVariants.{Indent}
 use Rattle.indent_lexer.proofs.States.{indent_is}
 use Rattle.indent_lexer.proofs.marks.indent.Goals as goal

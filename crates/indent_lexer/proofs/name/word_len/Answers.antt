@@ -1,4 +1,4 @@
-use Rattle.std.proofs.Common.{◌≡◌, ap, ◌∙◌}
+use Rattle.std.proofs.Common.{ap, ◌∙◌}
 use Rattle.indent_lexer.specs.Name.{name_len}
 use Rattle.indent_lexer.proofs.Runs.{word_len_is}
 use Rattle.indent_lexer.proofs.name.word_len.Goals as goal

@@ -1,4 +1,4 @@
-use Rattle.std.proofs.Common.{◌≡◌, ◌≤◌, ◌<◌, ◌^◌, List, [], ◌∷◌, ℕ, length, slice_index, drop, subst, sym, arith}
+use Rattle.std.proofs.Common.{◌≡◌, ◌≤◌, ◌^◌, List, [], ◌∷◌, ℕ, length, slice_index, arith}
 use Rattle.std.specs.List.{fold}
 use Rattle.indent_lexer.specs.Number.{with_digit, value_in}
 use Rattle.indent_lexer.proofs.Digits.{fold_grows}

@@ -1,5 +1,5 @@
-use Rattle.std.proofs.Common.{◌≡◌, ◌≢◌, sym, ◌∙◌, false, slice_index, arith}
-use Rattle.indent_lexer.specs.Piece.{piece_of, number_or_word, is_line_end, is_quote}
+use Rattle.std.proofs.Common.{◌≡◌, sym, ◌∙◌, false, slice_index, arith}
+use Rattle.indent_lexer.specs.Piece.{is_line_end, is_quote}
 use Rattle.indent_lexer.proofs.First.{number_or_word_is}
 use Rattle.indent_lexer.proofs.piece.piece_of.Goals as goal
 
