@@ -1,0 +1,6 @@
+pub mod Sequence
+pub mod Steps
+pub mod Choices
+pub mod Forms
+pub mod Repeats
+pub mod Chains
