@@ -4,3 +4,5 @@ pub mod Choices
 pub mod Forms
 pub mod Repeats
 pub mod Chains
+pub mod Rows
+pub mod Limits

@@ -75,3 +75,8 @@ turn pick fits node operand v = within (fits v) (take_by (pick v) >>= λ o. oper
 unfoldable pub repeat : {K A : Type 0} → (A → K → Bool) → (A → Parser K A) → ℕ → A → Parser K A
 repeat test turn zero v = pure v
 repeat test turn (suc n) v = choose (test v) (turn v >>= repeat test turn n) (pure v)
+
+-- an item where one may follow, and else a separator
+abbrev pub row_turn : {K S B : Type 0} → (K → Bool) → (S → Parser K B) → (S → B → S) → S × Bool → Parser K (S × Bool)
+row_turn is_separator item add (s, true) = item s >>= λ y. pure (add s y, false)
+row_turn is_separator item add (s, false) = expect is_separator >> pure (s, true)
