@@ -6,3 +6,4 @@ pub mod Repeats
 pub mod Chains
 pub mod Rows
 pub mod Limits
+pub mod Whole

@@ -1,5 +1,5 @@
 -- The forms that languages of tokens are made of, and what each asks of its parts.
-use Rattle.std.specs.Prelude.{◌≡◌, Bool, true, false, List, [], ◌∷◌, ◌++◌, Option, Some, None, ◌⊎◌}
+use Rattle.std.specs.Prelude.{◌≡◌, Bool, true, false, List, [], ◌∷◌, ◌++◌, Option, Some, ◌⊎◌}
 use Rattle.parse_laws.specs.Parser.{sees}
 use Rattle.parse_laws.specs.Language.{Language, Free}
 

@@ -1,5 +1,5 @@
 -- Languages and the parts of them that are within a limit.
-use Rattle.std.specs.Prelude.{◌≡◌, Bool, List, [], ◌∷◌, ◌++◌}
+use Rattle.std.specs.Prelude.{Bool, List, [], ◌++◌}
 use Rattle.parse_laws.specs.Parser.{Parser, ◌>>=◌, ◌>>◌, expect, pure}
 use Rattle.parse_laws.specs.Language.{Language, Free, Viable}
 

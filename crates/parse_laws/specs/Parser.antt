@@ -80,3 +80,12 @@ repeat test turn (suc n) v = choose (test v) (turn v >>= repeat test turn n) (pu
 abbrev pub row_turn : {K S B : Type 0} → (K → Bool) → (S → Parser K B) → (S → B → S) → S × Bool → Parser K (S × Bool)
 row_turn is_separator item add (s, true) = item s >>= λ y. pure (add s y, false)
 row_turn is_separator item add (s, false) = expect is_separator >> pure (s, true)
+
+-- the value, where no token is left
+abbrev pub ended : {K A : Type 0} → A → Parser K A
+ended v [] = Parsed v []
+ended v (t ∷ ts) = Stopped Unexpected (t ∷ ts)
+
+-- a parser that takes the whole list
+abbrev pub all_of : {K A : Type 0} → Parser K A → Parser K A
+all_of p = p >>= ended

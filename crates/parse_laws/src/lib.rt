@@ -8,5 +8,9 @@
 #![tactic(auto)]
 
 mod cause;
+mod place;
+#[cfg(test)]
+mod tests;
 
 pub use cause::Cause;
+pub use place::{BadToken, Grammar, bad_token};
