@@ -2,8 +2,8 @@
 use Rattle.std.proofs.Common.{◌≡◌, Bool, true, false, List, [], ◌∷◌, ◌++◌, refl, sym, ◌∙◌, ap, subst}
 use Rattle.std.proofs.lemmas.List.{append-nil}
 use Rattle.parse_laws.specs.Parser.{Outcome, Parser, and_then, sees, pure, within, expect, ◌>>◌}
-use Rattle.parse_laws.specs.Language.{Language, Free, GoesOn, Law}
-use Rattle.parse_laws.specs.Forms.{Then, Tests, never, Is, Just, Ends, Opens, Closes, Made}
+use Rattle.parse_laws.specs.Language.{Language, Free, Viable, GoesOn, Law}
+use Rattle.parse_laws.specs.Forms.{Then, never, Is, Just, Ends, Opens, Closes, Made}
 use Rattle.parse_laws.proofs.Sequence.{seq}
 use Rattle.parse_laws.proofs.Steps.{widen, pure_law, expect_law}
 
@@ -19,68 +19,70 @@ module _ {K : Type 0} where
   rename_law G R H S cont a b c d ts o l =
       widen G R H S cont never false (record { up = a; up_within = b; down = λ x v s g free h. c x v g; down_within = λ x v s g free h. d x v g }) ts (free_never ts) o l
 
-  opens_up : {B : Type 0} (it : K) (L : Language K B) (a : List K) (w : B) → Then (Just it) (λ _. L) a w → Opens it L a w
-  opens_up it L a w g = (g.second, g.joined ∙ ap (λ z. z ++ g.second) g.heads, g.tails)
+  opens_up : {B : Type 0} (test : K → Bool) (L : K → Language K B) (a : List K) (w : B) → Then (Just test) L a w → Opens test L a w
+  opens_up test L a w g = (g.value, g.second, g.joined ∙ ap (λ z. z ++ g.second) g.heads.0, g.heads.1, g.tails)
 
-  opens_down : {B : Type 0} (it : K) (L : Language K B) (a : List K) (w : B) → Opens it L a w → Then (Just it) (λ _. L) a w
-  opens_down it L a w g = record { first = it ∷ []; second = g.0; value = tt; joined = g.1; heads = refl; tails = g.2 }
+  opens_down : {B : Type 0} (test : K → Bool) (L : K → Language K B) (a : List K) (w : B) → Opens test L a w → Then (Just test) L a w
+  opens_down test L a w g = record { first = g.0 ∷ []; second = g.1; value = g.0; joined = g.2; heads = (refl, g.3); tails = g.4 }
 
   -- a token and then what it opens
-  pub open_law : {B : Type 0} (test : K → Bool) (it : K) → Tests test it → (G R : Language K B) (cont : K → Bool)
-      → ((c : List K) (w : B) → R c w → G c w) → (c : List K) × (w : B) × R c w
-      → (ts : List K) (q : Parser K B) → ((r : List K) → ts ≡ it ∷ r → Law G R cont r (q r)) → Law (Opens it G) (Opens it R) cont ts (and_then (expect test ts) (λ _. q))
-  open_law test it tests G R cont within some ts q second =
-      rename_law (Then (Just it) (λ _. G)) (Then (Just it) (λ _. R)) (Opens it G) (Opens it R) cont (opens_up it G) (opens_up it R) (opens_down it G) (opens_down it R) ts _
-      (seq (Just it) (Just it) never (λ _. G) (λ _. R) cont
+  pub open_law : {B : Type 0} (test : K → Bool) (G R : K → Language K B) (cont : K → Bool)
+      → ((t : K) (c : List K) (w : B) → R t c w → G t c w) → ((t : K) → test t ≡ true → Viable (R t) [])
+      → (ts : List K) (q : K → Parser K B) → ((t : K) (r : List K) → test t ≡ true → ts ≡ t ∷ r → Law (G t) (R t) cont r (q t r))
+      → Law (Opens test G) (Opens test R) cont ts (and_then (expect test ts) q)
+  open_law test G R cont within some ts q second =
+      rename_law (Then (Just test) G) (Then (Just test) R) (Opens test G) (Opens test R) cont (opens_up test G) (opens_up test R) (opens_down test G) (opens_down test R) ts _
+      (seq (Just test) (Just test) never G R cont
       (record {
         part = λ a v g. g;
-        parts = λ v c w g. within c w g;
+        parts = λ v c w g. within v c w g;
         apart = λ a v g c w s h free. free_never (c ++ s);
-        ends = λ a v g. (some.0, some.1, within some.0 some.1 some.2);
-        ends_within = λ a v g. some;
-      }) ts (expect test ts) (expect_law test it tests never ts) (λ _. q)
-      (λ used v r g e. second r (e ∙ ap (λ z. z ++ r) g)))
+        ends = λ a v g. let s = some v g.1 in (s.0, s.1, within v s.0 s.1 s.2);
+        ends_within = λ a v g. some v g.1;
+      }) ts (expect test ts) (expect_law test never ts) q
+      (λ used v r g e. second v r g.1 (e ∙ ap (λ z. z ++ r) g.0)))
 
-  pub ends_up : {B : Type 0} (it : K) (v : B) (a : List K) (w : B) → Then (Just it) (λ _. Is v) a w → Ends it v a w
-  ends_up it v a w g = (g.joined ∙ ap (λ z. z ++ g.second) g.heads ∙ ap (λ z. it ∷ z) g.tails.0, g.tails.1)
+  ends_up : {B : Type 0} (test : K → Bool) (v : B) (a : List K) (w : B) → Then (Just test) (λ _. Is v) a w → Ends test v a w
+  ends_up test v a w g = (g.value, g.joined ∙ ap (λ z. z ++ g.second) g.heads.0 ∙ ap (λ z. g.value ∷ z) g.tails.0, g.heads.1, g.tails.1)
 
-  pub ends_down : {B : Type 0} (it : K) (v : B) (a : List K) (w : B) → Ends it v a w → Then (Just it) (λ _. Is v) a w
-  ends_down it v a w g = record { first = it ∷ []; second = []; value = tt; joined = g.0; heads = refl; tails = (refl, g.1) }
+  ends_down : {B : Type 0} (test : K → Bool) (v : B) (a : List K) (w : B) → Ends test v a w → Then (Just test) (λ _. Is v) a w
+  ends_down test v a w g = record { first = g.0 ∷ []; second = []; value = g.0; joined = g.1; heads = (refl, g.2); tails = (refl, g.3) }
 
-  pub end_law : {B : Type 0} (test : K → Bool) (it : K) → Tests test it → (v : B) (cont : K → Bool) (ts : List K)
-      → Law (Ends it v) (Ends it v) cont ts (and_then (expect test ts) (λ _. pure v))
-  end_law test it tests v cont ts =
-      rename_law (Then (Just it) (λ _. Is v)) (Then (Just it) (λ _. Is v)) (Ends it v) (Ends it v) cont (ends_up it v) (ends_up it v) (ends_down it v) (ends_down it v) ts _
-      (seq (Just it) (Just it) never (λ _. Is v) (λ _. Is v) cont
+  -- a token, and a value that stands already
+  pub end_law : {B : Type 0} (test : K → Bool) (v : B) (cont : K → Bool) (ts : List K) → Law (Ends test v) (Ends test v) cont ts (and_then (expect test ts) (λ _. pure v))
+  end_law test v cont ts =
+      rename_law (Then (Just test) (λ _. Is v)) (Then (Just test) (λ _. Is v)) (Ends test v) (Ends test v) cont (ends_up test v) (ends_up test v) (ends_down test v) (ends_down test v) ts _
+      (seq (Just test) (Just test) never (λ _. Is v) (λ _. Is v) cont
       (record {
         part = λ a v g. g;
         parts = λ v c w g. g;
         apart = λ a x g c w s h free. free_never (c ++ s);
         ends = λ a x g. ([], v, (refl, refl));
         ends_within = λ a x g. ([], v, (refl, refl));
-      }) ts (expect test ts) (expect_law test it tests never ts) (λ _. pure v)
+      }) ts (expect test ts) (expect_law test never ts) (λ _. pure v)
       (λ used x r g e. pure_law v cont r))
 
-  pub closes_up : {A B : Type 0} (L : Language K A) (it : K) (f : A → B) (a : List K) (w : B) → Then L (λ x. Ends it (f x)) a w → Closes L it f a w
-  closes_up L it f a w g = (g.first, g.value, g.joined ∙ ap (λ z. g.first ++ z) g.tails.0, g.heads, g.tails.1)
+  closes_up : {A B : Type 0} (L : Language K A) (test : K → Bool) (f : A → B) (a : List K) (w : B) → Then L (λ x. Ends test (f x)) a w → Closes L test f a w
+  closes_up L test f a w g = (g.first, g.value, g.tails.0, g.joined ∙ ap (λ z. g.first ++ z) g.tails.1, g.heads, g.tails.2, g.tails.3)
 
-  pub closes_down : {A B : Type 0} (L : Language K A) (it : K) (f : A → B) (a : List K) (w : B) → Closes L it f a w → Then L (λ x. Ends it (f x)) a w
-  closes_down L it f a w g = record { first = g.0; second = it ∷ []; value = g.1; joined = g.2; heads = g.3; tails = (refl, g.4) }
+  closes_down : {A B : Type 0} (L : Language K A) (test : K → Bool) (f : A → B) (a : List K) (w : B) → Closes L test f a w → Then L (λ x. Ends test (f x)) a w
+  closes_down L test f a w g = record { first = g.0; second = g.2 ∷ []; value = g.1; joined = g.3; heads = g.4; tails = (g.2, refl, g.5, g.6) }
 
-  -- something and then the token that closes it
-  pub close_law : {A B : Type 0} (test : K → Bool) (it : K) → Tests test it → (G R : Language K A) (contp cont : K → Bool) → ((a : List K) (v : A) → R a v → G a v) → contp it ≡ false
-      → (f : A → B) (ts : List K) (o : Outcome K A) → Law G R contp ts o → Law (Closes G it f) (Closes R it f) cont ts (and_then o (λ x. expect test >> pure (f x)))
-  close_law test it tests G R contp cont part apart f ts o l =
-      rename_law (Then G (λ x. Ends it (f x))) (Then R (λ x. Ends it (f x))) (Closes G it f) (Closes R it f) cont (closes_up G it f) (closes_up R it f) (closes_down G it f) (closes_down R it f) ts _
-      (seq G R contp (λ x. Ends it (f x)) (λ x. Ends it (f x)) cont
+  -- something and then a token that closes it; some token does, and none that does carries the inside on
+  pub close_law : {A B : Type 0} (test : K → Bool) (it : K) → test it ≡ true → (G R : Language K A) (contp cont : K → Bool) → ((a : List K) (v : A) → R a v → G a v)
+      → ((t : K) → test t ≡ true → contp t ≡ false)
+      → (f : A → B) (ts : List K) (o : Outcome K A) → Law G R contp ts o → Law (Closes G test f) (Closes R test f) cont ts (and_then o (λ x. expect test >> pure (f x)))
+  close_law test it is G R contp cont part apart f ts o l =
+      rename_law (Then G (λ x. Ends test (f x))) (Then R (λ x. Ends test (f x))) (Closes G test f) (Closes R test f) cont (closes_up G test f) (closes_up R test f) (closes_down G test f) (closes_down R test f) ts _
+      (seq G R contp (λ x. Ends test (f x)) (λ x. Ends test (f x)) cont
       (record {
         part = part;
         parts = λ v c w g. g;
-        apart = λ a v g c w s h free. ap (λ z. sees contp (z ++ s)) h.0 ∙ apart;
-        ends = λ a v g. (it ∷ [], f v, (refl, refl));
-        ends_within = λ a v g. (it ∷ [], f v, (refl, refl));
+        apart = λ a v g c w s h free. ap (λ z. sees contp (z ++ s)) h.1 ∙ apart h.0 h.2;
+        ends = λ a v g. (it ∷ [], f v, (it, refl, is, refl));
+        ends_within = λ a v g. (it ∷ [], f v, (it, refl, is, refl));
       }) ts o l (λ x. expect test >> pure (f x))
-      (λ used v r g e. end_law test it tests (f v) cont r))
+      (λ used v r g e. end_law test (f v) cont r))
 
   made_up : {A B : Type 0} (L : Language K A) (f : A → B) (a : List K) (w : B) → Then L (λ x. Is (f x)) a w → Made L f a w
   made_up L f a w g = let P : List K → Type 0 = λ z. L z g.value in
@@ -103,12 +105,10 @@ module _ {K : Type 0} where
       }) ts o l (λ x. pure (f x))
       (λ used v r g e. pure_law (f v) cont r))
 
-  pub begins_at : {A : Type 0} (test : K → Bool) (it : K) → Tests test it → (G : Language K A) (more : List K) (v : A) → G (it ∷ more) v
-      → (ts : List K) → sees test ts ≡ true → GoesOn G [] ts
-  begins_at test it tests G more v g [] h = absurd (cc)
-  begins_at test it tests G more v g (t ∷ ts) h =
-      let P : K → Type 0 = λ z. G (z ∷ more) v in
-      record { token = t; rest = ts; more = more; value = v; next = refl; spells = subst P (sym (tests.only t h)) g }
+  -- where each token that passes the test begins a text, so does the next one that does
+  pub begins_at : {A : Type 0} (test : K → Bool) (G : Language K A) → ((t : K) → test t ≡ true → Viable G (t ∷ [])) → (ts : List K) → sees test ts ≡ true → GoesOn G [] ts
+  begins_at test G viable [] h = absurd (cc)
+  begins_at test G viable (t ∷ ts) h = let b = viable t h in record { token = t; rest = ts; more = b.0; value = b.1; next = refl; spells = b.2 }
 
   pub wider_at : (contp cont : K → Bool) → ((t : K) → cont t ≡ false → contp t ≡ false) → (s : List K) → Free cont s → Free contp s
   wider_at contp cont wider [] free = refl

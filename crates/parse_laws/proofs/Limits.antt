@@ -4,7 +4,7 @@ use Rattle.std.proofs.Common.{◌≡◌, Bool, true, false, List, [], ◌∷◌,
 use Rattle.parse_laws.specs.declared.cause.Cause.TheVariants.{Unexpected}
 use Rattle.parse_laws.specs.Parser.{Outcome, Parsed, Stopped, Parser, and_then, sees, pure, choose, within, expect, take_by, ◌>>=◌, ◌>>◌}
 use Rattle.parse_laws.specs.Language.{Language, Free, Viable, Law}
-use Rattle.parse_laws.specs.Forms.{Then, Tests, Is, Picks, Ends, Opens, Closes, Brackets, Made, Either}
+use Rattle.parse_laws.specs.Forms.{Then, Is, Picks, Ends, Opens, Closes, Brackets, Made, Either}
 use Rattle.parse_laws.specs.Limits.{Limited, Nothing, Joins, Carries, bracket}
 use Rattle.parse_laws.proofs.Sequence.{seq}
 use Rattle.parse_laws.proofs.Steps.{widen, pure_law, deep_law}
@@ -74,45 +74,46 @@ module _ {K : Type 0} where
       (λ a w g. (g.0.0, (g.0.1, carries.shrinks g.0.0 (subst fit g.0.2 g.1)), g.0.2))
       ts _ (made_law G (Limited G fit_first) cont (λ a v g. g.0) f ts o l)
 
-  pub open_limited : {B : Type 0} (test : K → Bool) (it : K) → Tests test it → (G : Language K B) (fit : B → Type 0) (cont : K → Bool) → Viable (Limited G fit) []
-      → (ts : List K) (q : Parser K B) → ((r : List K) → ts ≡ it ∷ r → Law G (Limited G fit) cont r (q r))
-      → Law (Opens it G) (Limited (Opens it G) fit) cont ts (and_then (expect test ts) (λ _. q))
-  open_limited test it tests G fit cont some ts q second =
-      rename_law (Opens it G) (Opens it (Limited G fit)) (Opens it G) (Limited (Opens it G) fit) cont
+  pub open_limited : {B : Type 0} (test : K → Bool) (G : K → Language K B) (fit : B → Type 0) (cont : K → Bool) → ((t : K) → test t ≡ true → Viable (Limited (G t) fit) [])
+      → (ts : List K) (q : K → Parser K B) → ((t : K) (r : List K) → test t ≡ true → ts ≡ t ∷ r → Law (G t) (Limited (G t) fit) cont r (q t r))
+      → Law (Opens test G) (Limited (Opens test G) fit) cont ts (and_then (expect test ts) q)
+  open_limited test G fit cont some ts q second =
+      rename_law (Opens test G) (Opens test (λ t. Limited (G t) fit)) (Opens test G) (Limited (Opens test G) fit) cont
       (λ a w g. g)
-      (λ a w g. ((g.0, g.1, g.2.0), g.2.1))
+      (λ a w g. ((g.0, g.1, g.2, g.3, g.4.0), g.4.1))
       (λ a w g. g)
-      (λ a w g. (g.0.0, g.0.1, (g.0.2, g.1)))
-      ts _ (open_law test it tests G (Limited G fit) cont (λ c w g. g.0) some ts q second)
+      (λ a w g. (g.0.0, g.0.1, g.0.2, g.0.3, (g.0.4, g.1)))
+      ts _ (open_law test G (λ t. Limited (G t) fit) cont (λ t c w g. g.0) some ts q second)
 
-  pub close_limited : {A B : Type 0} (test : K → Bool) (it : K) → Tests test it → (G : Language K A) (contp cont : K → Bool) → contp it ≡ false
+  pub close_limited : {A B : Type 0} (test : K → Bool) (it : K) → test it ≡ true → (G : Language K A) (contp cont : K → Bool) → ((t : K) → test t ≡ true → contp t ≡ false)
       → (f : A → B) (fit_first : A → Type 0) (fit : B → Type 0) → Carries f fit_first fit
       → (ts : List K) (o : Outcome K A) → Law G (Limited G fit_first) contp ts o
-      → Law (Closes G it f) (Limited (Closes G it f) fit) cont ts (and_then o (λ x. expect test >> pure (f x)))
-  close_limited test it tests G contp cont apart f fit_first fit carries ts o l =
-      rename_law (Closes G it f) (Closes (Limited G fit_first) it f) (Closes G it f) (Limited (Closes G it f) fit) cont
+      → Law (Closes G test f) (Limited (Closes G test f) fit) cont ts (and_then o (λ x. expect test >> pure (f x)))
+  close_limited test it is G contp cont apart f fit_first fit carries ts o l =
+      rename_law (Closes G test f) (Closes (Limited G fit_first) test f) (Closes G test f) (Limited (Closes G test f) fit) cont
       (λ a w g. g)
-      (λ a w g. ((g.0, g.1, g.2, g.3.0, g.4), subst fit (sym g.4) (carries.grows g.1 g.3.1)))
+      (λ a w g. ((g.0, g.1, g.2, g.3, g.4.0, g.5, g.6), subst fit (sym g.6) (carries.grows g.1 g.4.1)))
       (λ a w g. g)
-      (λ a w g. (g.0.0, g.0.1, g.0.2, (g.0.3, carries.shrinks g.0.1 (subst fit g.0.4 g.1)), g.0.4))
-      ts _ (close_law test it tests G (Limited G fit_first) contp cont (λ a v g. g.0) apart f ts o l)
+      (λ a w g. (g.0.0, g.0.1, g.0.2, g.0.3, (g.0.4, carries.shrinks g.0.1 (subst fit g.0.6 g.1)), g.0.5, g.0.6))
+      ts _ (close_law test it is G (Limited G fit_first) contp cont (λ a v g. g.0) apart f ts o l)
 
-  pub end_limited : {B : Type 0} (test : K → Bool) (it : K) → Tests test it → (v : B) (fit : B → Type 0) → fit v → (cont : K → Bool) (ts : List K)
-      → Law (Ends it v) (Limited (Ends it v) fit) cont ts (and_then (expect test ts) (λ _. pure v))
-  end_limited test it tests v fit f cont ts =
-      rename_law (Ends it v) (Ends it v) (Ends it v) (Limited (Ends it v) fit) cont (λ a w g. g) (λ a w g. (g, subst fit (sym g.1) f)) (λ a w g. g) (λ a w g. g.0) ts _
-      (end_law test it tests v cont ts)
+  pub end_limited : {B : Type 0} (test : K → Bool) (v : B) (fit : B → Type 0) → fit v → (cont : K → Bool) (ts : List K)
+      → Law (Ends test v) (Limited (Ends test v) fit) cont ts (and_then (expect test ts) (λ _. pure v))
+  end_limited test v fit f cont ts =
+      rename_law (Ends test v) (Ends test v) (Ends test v) (Limited (Ends test v) fit) cont (λ a w g. g) (λ a w g. (g, subst fit (sym g.3) f)) (λ a w g. g) (λ a w g. g.0) ts _
+      (end_law test v cont ts)
 
   -- something between two tokens
-  pub bracket_law : {A B : Type 0} (is_open : K → Bool) (open_it : K) → Tests is_open open_it → (is_close : K → Bool) (close_it : K) → Tests is_close close_it
-      → (G : Language K A) (contp cont : K → Bool) → contp close_it ≡ false → (f : A → B) (fit_first : A → Type 0) (fit : B → Type 0) → Carries f fit_first fit → Viable (Limited G fit_first) []
+  pub bracket_law : {A B : Type 0} (is_open is_close : K → Bool) (close_it : K) → is_close close_it ≡ true
+      → (G : Language K A) (contp cont : K → Bool) → ((t : K) → is_close t ≡ true → contp t ≡ false)
+      → (f : K → A → B) (fit_first : A → Type 0) (fit : B → Type 0) → ((t : K) → Carries (f t) fit_first fit) → Viable (Limited G fit_first) []
       → (p : Parser K A) → ((r : List K) → Law G (Limited G fit_first) contp r (p r))
-      → (ts : List K) → Law (Brackets open_it G close_it f) (Limited (Brackets open_it G close_it f) fit) cont ts (bracket is_open p is_close f ts)
-  bracket_law is_open open_it opens is_close close_it closes G contp cont apart f fit_first fit carries some p inside ts =
-      open_limited is_open open_it opens (Closes G close_it f) fit cont
-      (some.0 ++ close_it ∷ [], f some.1, ((some.0, some.1, refl, some.2.0, refl), carries.grows some.1 some.2.1))
-      ts (p >>= λ x. expect is_close >> pure (f x))
-      (λ r e. close_limited is_close close_it closes G contp cont apart f fit_first fit carries r (p r) (inside r))
+      → (ts : List K) → Law (Brackets is_open G is_close f) (Limited (Brackets is_open G is_close f) fit) cont ts (bracket is_open p is_close f ts)
+  bracket_law is_open is_close close_it is G contp cont apart f fit_first fit carries some p inside ts =
+      open_limited is_open (λ t. Closes G is_close (f t)) fit cont
+      (λ t h. (some.0 ++ close_it ∷ [], f t some.1, ((some.0, some.1, close_it, refl, some.2.0, is, refl), (carries t).grows some.1 some.2.1)))
+      ts (λ t. p >>= λ x. expect is_close >> pure (f t x))
+      (λ t r h e. close_limited is_close close_it is G contp cont apart (f t) fit_first fit (carries t) r (p r) (inside r))
 
   -- ---- choices
 

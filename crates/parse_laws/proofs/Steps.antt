@@ -4,7 +4,7 @@ use Rattle.parse_laws.specs.declared.cause.Cause.{Cause}
 use Rattle.parse_laws.specs.declared.cause.Cause.TheVariants.{Unexpected, TooDeep}
 use Rattle.parse_laws.specs.Parser.{Outcome, Parsed, Stopped, sees, expect}
 use Rattle.parse_laws.specs.Language.{Language, Free, Same, NoneGoesOn, ViableIfAny, GoesOn, Refused, Law}
-use Rattle.parse_laws.specs.Forms.{Agrees, Tests, Just}
+use Rattle.parse_laws.specs.Forms.{Agrees, Just}
 use Rattle.parse_laws.proofs.Sequence.{same_sees, same_append}
 
 module _ {K : Type 0} where
@@ -69,32 +69,34 @@ module _ {K : Type 0} where
   pub cons_tail : (t u : K) (ts us : List K) → t ∷ ts ≡ u ∷ us → (t ≡ u) × (ts ≡ us)
   cons_tail t u ts us e = (cc, cc)
 
-  expect_at : (test : K → Bool) (it : K) → Tests test it → (cont : K → Bool) (t : K) (ts : List K) (x : Bool) → test t ≡ x
-      → Law (Just it) (Just it) cont (t ∷ ts) (cond x (Parsed tt ts) (Stopped Unexpected (t ∷ ts)))
-  expect_at test it tests cont t ts true h = record {
+  expect_at : (test : K → Bool) (cont : K → Bool) (t : K) (ts : List K) (x : Bool) → test t ≡ x
+      → Law (Just test) (Just test) cont (t ∷ ts) (cond x (Parsed t ts) (Stopped Unexpected (t ∷ ts)))
+  expect_at test cont t ts true h = record {
     used = t ∷ [];
     whole = refl;
-    spells = ap (λ z. z ∷ []) (tests.only t h);
-    only = λ b w s c g free same e. (g ∙ ap (λ z. z ∷ []) (sym (tests.only t h)), refl);
+    spells = (refl, h);
+    only = λ b w s c g free same e.
+        let m : w ≡ t = (cons_tail w t s c (ap (λ z. z ++ s) (sym g.0) ∙ e)).0 in
+        (g.0 ∙ ap (λ z. z ∷ []) m, m);
   }
-  expect_at test it tests cont t ts false h = record {
+  expect_at test cont t ts false h = record {
     used = [];
     whole = refl;
     viable = tt;
     refused = λ b w s c g free same e.
         let h1 : sees test c ≡ false = sym (same_sees test (t ∷ ts) c same) ∙ h in
-        let h2 : sees test c ≡ true = sym (ap (sees test) e) ∙ ap (λ z. sees test (z ++ s)) g ∙ tests.is in
+        let h2 : sees test c ≡ true = sym (ap (sees test) e) ∙ ap (λ z. sees test (z ++ s)) g.0 ∙ g.1 in
         cc;
   }
 
-  pub expect_law : (test : K → Bool) (it : K) → Tests test it → (cont : K → Bool) (ts : List K) → Law (Just it) (Just it) cont ts (expect test ts)
-  expect_law test it tests cont [] = record {
+  pub expect_law : (test : K → Bool) (cont : K → Bool) (ts : List K) → Law (Just test) (Just test) cont ts (expect test ts)
+  expect_law test cont [] = record {
     used = [];
     whole = refl;
     viable = tt;
     refused = λ b w s c g free same e.
         let h1 : sees test c ≡ false = sym (same_sees test [] c same) in
-        let h2 : sees test c ≡ true = sym (ap (sees test) e) ∙ ap (λ z. sees test (z ++ s)) g ∙ tests.is in
+        let h2 : sees test c ≡ true = sym (ap (sees test) e) ∙ ap (λ z. sees test (z ++ s)) g.0 ∙ g.1 in
         cc;
   }
-  expect_law test it tests cont (t ∷ ts) = expect_at test it tests cont t ts (test t) refl
+  expect_law test cont (t ∷ ts) = expect_at test cont t ts (test t) refl

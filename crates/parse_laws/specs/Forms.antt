@@ -28,11 +28,6 @@ pub record Agrees {K A : Type 0} (G R G' R' : Language K A) (cont test : K → B
   pub down : (a : List K) (v : A) (s : List K) → G' a v → Free cont s → sees test (a ++ s) ≡ x → G a v
   pub down_within : (a : List K) (v : A) (s : List K) → R' a v → Free cont s → sees test (a ++ s) ≡ x → R a v
 
--- the token is the only one that passes the test
-pub record Tests {K : Type 0} (test : K → Bool) (it : K) : Type 0 where
-  pub is : test it ≡ true
-  pub only : (t : K) → test t ≡ true → t ≡ it
-
 -- no token
 abbrev pub never : {K : Type 0} → K → Bool
 never t = false
@@ -45,29 +40,29 @@ any t = true
 abbrev pub Is : {K A : Type 0} → A → Language K A
 Is v a w = (a ≡ []) × (w ≡ v)
 
--- this token
-abbrev pub Just : {K : Type 0} → K → Language K (Unit {0})
-Just it a v = a ≡ it ∷ []
+-- a token that passes the test, which is the value
+abbrev pub Just : {K : Type 0} → (K → Bool) → Language K K
+Just test a t = (a ≡ t ∷ []) × (test t ≡ true)
 
 -- a token of a table, and what the table has for it
 abbrev pub Picks : {K O : Type 0} → (K → Option O) → Language K O
 Picks {K} pick a o = (t : K) × (a ≡ t ∷ []) × (pick t ≡ Some o)
 
--- this token, and a value that stands already
-abbrev pub Ends : {K B : Type 0} → K → B → Language K B
-Ends it v c w = (c ≡ it ∷ []) × (w ≡ v)
+-- a token that passes the test, and a value that stands already
+abbrev pub Ends : {K B : Type 0} → (K → Bool) → B → Language K B
+Ends {K} test v c w = (t : K) × (c ≡ t ∷ []) × (test t ≡ true) × (w ≡ v)
 
--- this token, and then a language
-abbrev pub Opens : {K B : Type 0} → K → Language K B → Language K B
-Opens {K} it L c w = (b : List K) × (c ≡ it ∷ b) × L b w
+-- a token that passes the test, and then a language, which may depend on the token
+abbrev pub Opens : {K B : Type 0} → (K → Bool) → (K → Language K B) → Language K B
+Opens {K} test L c w = (t : K) × (b : List K) × (c ≡ t ∷ b) × (test t ≡ true) × L t b w
 
--- a language, and then this token
-abbrev pub Closes : {K A B : Type 0} → Language K A → K → (A → B) → Language K B
-Closes {K} {A} L it f c w = (b : List K) × (x : A) × (c ≡ b ++ it ∷ []) × L b x × (w ≡ f x)
+-- a language, and then a token that passes the test
+abbrev pub Closes : {K A B : Type 0} → Language K A → (K → Bool) → (A → B) → Language K B
+Closes {K} {A} L test f c w = (b : List K) × (x : A) × (t : K) × (c ≡ b ++ t ∷ []) × L b x × (test t ≡ true) × (w ≡ f x)
 
--- a language between two tokens
-abbrev pub Brackets : {K A B : Type 0} → K → Language K A → K → (A → B) → Language K B
-Brackets open_it L close_it f = Opens open_it (Closes L close_it f)
+-- a language between two tokens; the value may depend on the first
+abbrev pub Brackets : {K A B : Type 0} → (K → Bool) → Language K A → (K → Bool) → (K → A → B) → Language K B
+Brackets is_open L is_close f = Opens is_open (λ t. Closes L is_close (f t))
 
 -- what is made of a language's values
 abbrev pub Made : {K A B : Type 0} → Language K A → (A → B) → Language K B

@@ -26,5 +26,5 @@ pub record Carries {A B : Type 0} (f : A → B) (fit_first : A → Type 0) (fit 
   pub shrinks : (x : A) → fit (f x) → fit_first x
 
 -- something between two tokens
-abbrev pub bracket : {K A B : Type 0} → (K → Bool) → Parser K A → (K → Bool) → (A → B) → Parser K B
-bracket is_open p is_close f = expect is_open >> (p >>= λ x. expect is_close >> pure (f x))
+abbrev pub bracket : {K A B : Type 0} → (K → Bool) → Parser K A → (K → Bool) → (K → A → B) → Parser K B
+bracket is_open p is_close f = expect is_open >>= λ t. p >>= λ x. expect is_close >> pure (f t x)

@@ -38,25 +38,25 @@ abbrev pub RowState : Type 0 → Type 0
 RowState S = S × Bool
 
 -- A row's turn: an item where one may follow, which may depend on the items so far, and else a separator.
-abbrev pub RowStep : {K S B : Type 0} → K → (S → Language K B) → (S → B → S) → RowState S → Language K (RowState S)
-RowStep separator Item add (s, true) = Made (Item s) (λ y. (add s y, false))
-RowStep separator Item add (s, false) = Ends separator (s, true)
+abbrev pub RowStep : {K S B : Type 0} → (K → Bool) → (S → Language K B) → (S → B → S) → RowState S → Language K (RowState S)
+RowStep is_separator Item add (s, true) = Made (Item s) (λ y. (add s y, false))
+RowStep is_separator Item add (s, false) = Ends is_separator (s, true)
 
 -- A row: items with separators between and perhaps one after the last: [item (separator item)* [separator]].
 -- After an item it goes on from `(s, false)`, and so a row of at least one item is an item and then a row.
-abbrev pub Row : {K S B : Type 0} → K → (S → Language K B) → (S → B → S) → RowState S → Language K (RowState S)
-Row separator Item add = Turns (RowStep separator Item add)
+abbrev pub Row : {K S B : Type 0} → (K → Bool) → (S → Language K B) → (S → B → S) → RowState S → Language K (RowState S)
+Row is_separator Item add = Turns (RowStep is_separator Item add)
 
 -- the next token begins an item where one may follow, or is the separator
 abbrev pub row_test : {K S : Type 0} → (K → Bool) → (S → K → Bool) → RowState S → K → Bool
 row_test is_separator starts r t = cond r.1 (starts r.0 t) (is_separator t)
 
--- What is asked of the items of a row: each begins with a token that starts one, which `cont` has; the separator is no
--- such token of an item's own; and an item makes a row that is within the limit only of one that is.
-pub record RowItems {K S B : Type 0} (separator : K) (Item : S → Language K B) (add : S → B → S) (starts : S → K → Bool) (contp cont : K → Bool) (fit : S → Type 0) : Type 0 where
+-- What is asked of the items of a row: each begins with a token that starts one, which `cont` has; a separator carries
+-- no item on; and an item makes a row that is within the limit only of one that is.
+pub record RowItems {K S B : Type 0} (is_separator : K → Bool) (Item : S → Language K B) (add : S → B → S) (starts : S → K → Bool) (contp cont : K → Bool) (fit : S → Type 0) : Type 0 where
   pub opens : (s : S) (b : List K) (y : B) (rest : List K) → Item s b y → sees (starts s) (b ++ rest) ≡ true
   pub own : (s : S) (t : K) → starts s t ≡ true → cont t ≡ true
-  pub own_separator : cont separator ≡ true
+  pub own_separator : (t : K) → is_separator t ≡ true → cont t ≡ true
   pub wider : (t : K) → cont t ≡ false → contp t ≡ false
-  pub ends_before : contp separator ≡ false
+  pub ends_before : (t : K) → is_separator t ≡ true → contp t ≡ false
   pub shrinks : (s : S) (b : List K) (y : B) → Item s b y → fit (add s y) → fit s

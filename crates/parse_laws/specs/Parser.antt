@@ -46,9 +46,9 @@ abbrev pub within : {K A : Type 0} → Bool → Parser K A → Parser K A
 within has_room p = λ ts. cond has_room (p ts) (Stopped TooDeep ts)
 
 -- a token that passes the test
-abbrev pub expect : {K : Type 0} → (K → Bool) → Parser K (Unit {0})
+abbrev pub expect : {K : Type 0} → (K → Bool) → Parser K K
 expect test [] = Stopped Unexpected []
-expect test (t ∷ ts) = cond (test t) (Parsed tt ts) (Stopped Unexpected (t ∷ ts))
+expect test (t ∷ ts) = cond (test t) (Parsed t ts) (Stopped Unexpected (t ∷ ts))
 
 abbrev pub taken : {K O : Type 0} → Option O → K → Parser K O
 taken (Some o) t = pure o
