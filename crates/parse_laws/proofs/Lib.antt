@@ -7,3 +7,4 @@ pub mod Chains
 pub mod Rows
 pub mod Limits
 pub mod Whole
+pub mod Lists

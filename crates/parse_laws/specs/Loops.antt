@@ -1,6 +1,6 @@
 -- Loops of languages: turns that begin with a token of their own, chains of operators, and rows with separators.
-use Rattle.std.specs.Prelude.{◌≡◌, Bool, true, false, cond, List, [], ◌∷◌, ◌++◌, Option, Some}
-use Rattle.parse_laws.specs.Parser.{sees}
+use Rattle.std.specs.Prelude.{◌≡◌, Bool, true, false, cond, ◌||◌, ◌&&◌, List, [], ◌∷◌, ◌++◌, length, Option, Some}
+use Rattle.parse_laws.specs.Parser.{Parser, sees, pure, repeat, row_turn, ◌>>=◌}
 use Rattle.parse_laws.specs.Language.{Language}
 use Rattle.parse_laws.specs.Forms.{Made, Ends}
 
@@ -60,3 +60,50 @@ pub record RowItems {K S B : Type 0} (is_separator : K → Bool) (Item : S → L
   pub wider : (t : K) → cont t ≡ false → contp t ≡ false
   pub ends_before : (t : K) → is_separator t ≡ true → contp t ≡ false
   pub shrinks : (s : S) (b : List K) (y : B) → Item s b y → fit (add s y) → fit s
+
+-- Items with separators between and perhaps one after the last, as a grammar writes them: the items, and whether a
+-- separator stands at all. At least one item stands.
+pub data Listed {K B : Type 0} (is_separator : K → Bool) (Item : Language K B) : List K → List B × Bool → Type 0 where
+  last : (a : List K) (y : B) → Item a y → Listed is_separator Item a (y ∷ [], false)
+  trailing : (a : List K) (y : B) (t : K) → Item a y → is_separator t ≡ true → Listed is_separator Item (a ++ t ∷ []) (y ∷ [], true)
+  another : (a : List K) (y : B) (t : K) (b : List K) (ys : List B) (more : Bool) → Item a y → is_separator t ≡ true → Listed is_separator Item b (ys, more)
+      → Listed is_separator Item (a ++ t ∷ b) (y ∷ ys, true)
+
+-- each of these items may follow those before it
+abbrev pub Grows : {B : Type 0} → (List B → Bool) → List B → List B → Type 0
+Grows room before [] = Unit {0}
+Grows room before (y ∷ ys) = (room before ≡ true) × Grows room (before ++ y ∷ []) ys
+
+-- a list of items each of which may follow those before it
+abbrev pub ListedWithin : {K B : Type 0} → (K → Bool) → Language K B → (List B → Bool) → Language K (List B × Bool)
+ListedWithin is_separator Item room a w = Listed is_separator Item a w × Grows room [] w.0
+
+abbrev pub is_several : {B : Type 0} → List B → Bool
+is_several [] = false
+is_several (x ∷ []) = false
+is_several (x ∷ y ∷ ys) = true
+
+-- the items of a row, and whether a separator stands
+abbrev pub finished : {B : Type 0} → RowState (List B) → List B × Bool
+finished r = (r.0, r.1 || is_several r.0)
+
+-- What is asked of the items of a list: each begins with a token that passes the test, which `cont` has; and a
+-- separator, which `cont` has too, carries no item on.
+pub record ListItems {K B : Type 0} (is_separator : K → Bool) (Item : Language K B) (starts contp cont : K → Bool) : Type 0 where
+  pub opens : (b : List K) (y : B) (rest : List K) → Item b y → sees starts (b ++ rest) ≡ true
+  pub own : (t : K) → starts t ≡ true → cont t ≡ true
+  pub own_separator : (t : K) → is_separator t ≡ true → cont t ≡ true
+  pub wider : (t : K) → cont t ≡ false → contp t ≡ false
+  pub ends_before : (t : K) → is_separator t ≡ true → contp t ≡ false
+
+-- the next token begins an item, and one more may follow these
+abbrev pub starts_in : {K B : Type 0} → (List B → Bool) → (K → Bool) → List B → K → Bool
+starts_in room starts s t = room s && starts t
+
+-- the items after those that stand
+unfoldable pub rest_of : {K B : Type 0} → (K → Bool) → (K → Bool) → (List B → Bool) → Parser K B → List B → Parser K (RowState (List B))
+rest_of is_separator starts room item s = λ ts. repeat (row_test is_separator (starts_in room starts)) (row_turn is_separator (λ _. item) (λ v y. v ++ y ∷ [])) (length ts) (s, false) ts
+
+-- a list of at least one item, and whether a separator stands at all
+unfoldable pub listed : {K B : Type 0} → (K → Bool) → (K → Bool) → (List B → Bool) → Parser K B → Parser K (List B × Bool)
+listed is_separator starts room item = item >>= (λ y. rest_of is_separator starts room item (y ∷ [])) >>= λ r. pure (finished r)
