@@ -11,6 +11,7 @@ mod object;
 mod print;
 mod quote;
 mod show;
+mod sighted;
 mod source;
 mod text;
 mod ty;
@@ -27,6 +28,7 @@ pub use number::{
 pub use object::Object;
 pub use print::push_shown;
 pub use show::{ShowRefusal, show_value};
+pub use sighted::Sighted;
 pub use source::{FuncId, NodeId, Span};
 pub use text::Text;
 pub use ty::{Ty, Tys};
