@@ -12,6 +12,10 @@ use Rattle.codon_base.specs.contracts.object.Object as object
 abbrev pub LendsPlace : MutBor (List Object) → ℕ → Option (MutBor Object) → Fml
 LendsPlace objects place r = LendsIf level.the_row object.the_row objects r (slice_set objects.now place) objects.now
 
+-- a heap ends with the last value behind the reference as the level with that number, and as it was where it has no such level
+abbrev pub LendsLevel : MutBor (List (List Object)) → ℕ → Option (MutBor (List Object)) → Fml
+LendsLevel levels number r = LendsIf heap.the_row level.the_row levels r (slice_set levels.now number) levels.now
+
 -- a heap ends with the last value behind the reference at that address, and as it was where it has no such address
 abbrev pub LendsObject : MutBor (List (List Object)) → Ref → Option (MutBor Object) → Fml
 LendsObject levels at r = LendsIf heap.the_row object.the_row levels r (replaced levels.now at) levels.now

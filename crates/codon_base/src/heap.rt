@@ -107,7 +107,7 @@ impl Model for Heap {
 impl Heap {
     ghost use Rattle.std.specs.Borrow.{sem};
     ghost use Rattle.std.specs.Option.{option_copied_mut};
-    ghost use Rattle.codon_base.specs.Changes.{LendsObject};
+    ghost use Rattle.codon_base.specs.Changes.{LendsLevel, LendsObject};
 
     /// A heap with level 0, which holds nothing.
     pub fn new(alloc: Global) -> Result<Heap, Memory>
@@ -161,8 +161,15 @@ impl Heap {
         ensures* lends { sem 𝓛 (LendsObject self.entry at result) }
         ensures value { option_copied_mut result ≡ object_at self.old at }
     {
-        let level = self.levels.get_mut(at.level as usize)?;
+        let level = self.level_mut(at.level)?;
         level.object_mut(at.place)
+    }
+
+    fn level_mut(&mut self, number: u32) -> Option<&mut Level>
+        ensures* lends { sem 𝓛 (LendsLevel self.entry number result) }
+        ensures value { option_copied_mut result ≡ slice_get self.old number }
+    {
+        self.levels.get_mut(number as usize)
     }
 }
 
