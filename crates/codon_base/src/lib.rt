@@ -23,7 +23,7 @@ pub use fault::{Ending, Fault, FaultKind};
 pub use heap::{Heap, Holder};
 pub use memory::{Memory, Or};
 pub use number::{
-    floor_div, floor_mod, shift_left, shift_right, wrap_add, wrap_mul, wrap_pow, wrap_sub,
+    floor_div, floor_mod, shift_left, shift_right, wrap_add, wrap_mul, wrap_neg, wrap_pow, wrap_sub,
 };
 pub use object::Object;
 pub use print::push_shown;
