@@ -48,3 +48,7 @@ Judges _ _ met = ⊥
 abbrev pub tested : Result Bool WalkEnd → (Bool → Made) → Made
 tested (Ok b) make = make b
 tested (Err e) make = fault_of (end_of e)
+
+-- the answer is that of the test, whatever is made of it
+abbrev pub IsTested : Result Bool WalkEnd → ((Bool → Made) → Made) → Type 0
+IsTested result test = (make : Bool → Made) → test make ≡ tested result make

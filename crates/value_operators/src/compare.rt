@@ -1,6 +1,5 @@
 ghost use Rattle.std.specs.Prelude.{◌≡◌, length};
 ghost use Rattle.codon_base.specs.declared.value.Value.{out-Value};
-ghost use Rattle.codon_base.specs.Walks.{meet, nesting_limit};
 ghost use Rattle.codon_base.specs.Compared.{equal, member, equal_met, all_equal, tuples_equal, lists_equal, both_found};
 ghost use Rattle.codon_base.specs.Operators.{whole, is_equal, is_unequal};
 ghost use Rattle.value_operators.specs.Answers.{Judges, Makes};
@@ -78,17 +77,6 @@ pub(crate) fn is_member<S: Sighted>(
     Ok(false)
 }
 
-/// Counts a pair that the walk meets.
-fn meet(met: &mut u32) -> Result<(), WalkEnd>
-    ensures { Judges result (meet met.old) met.new }
-{
-    if *met >= VALUE_LIMIT {
-        return Err(WalkEnd::TooLarge);
-    }
-    *met += 1;
-    Ok(())
-}
-
 /// Walks a pair of values, where `room` more lists and tuples may be entered one inside the other.
 #[cycle(compare)]
 fn equal_one<S: Sighted>(
@@ -100,7 +88,10 @@ fn equal_one<S: Sighted>(
 ) -> Result<bool, WalkEnd>
     ensures { Judges result (equal (whole (S.sight sight.now)) room v.now w.now met.old) met.new }
 {
-    meet(met)?;
+    if *met >= VALUE_LIMIT {
+        return Err(WalkEnd::TooLarge);
+    }
+    *met += 1;
     equal_met(sight, v, w, room, met)
 }
 

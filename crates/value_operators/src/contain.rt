@@ -1,7 +1,6 @@
-ghost use Rattle.std.specs.Prelude.{◌≡◌, Bool};
 ghost use Rattle.codon_base.specs.declared.value.Value.{Value-F, out-Value};
-ghost use Rattle.codon_base.specs.Operators.{Made, contains, is_in, is_not_in};
-ghost use Rattle.value_operators.specs.Answers.{Makes, tested};
+ghost use Rattle.codon_base.specs.Operators.{contains, is_in, is_not_in};
+ghost use Rattle.value_operators.specs.Answers.{Makes, IsTested};
 
 use crate::Made;
 use crate::compare::{WalkEnd, is_member};
@@ -38,7 +37,7 @@ pub fn is_not_in<S: Sighted>(
 
 /// Whether a value is in a list or a text, or why that is not told.
 fn contains<S: Sighted>(sight: &S, v: &Value, w: &Value) -> Result<bool, WalkEnd>
-    ensures { (make : Bool → Made) → contains (S.sight sight.now) make v.now (out-Value v.now) (out-Value w.now) ≡ tested result make }
+    ensures { IsTested result (λ make. contains (S.sight sight.now) make v.now (out-Value v.now) (out-Value w.now)) }
 {
     match (v, w) {
         (Value::Text(t), Value::Text(u)) => Ok(occurs(t.as_bytes(), u.as_bytes())),
@@ -48,7 +47,7 @@ fn contains<S: Sighted>(sight: &S, v: &Value, w: &Value) -> Result<bool, WalkEnd
 }
 
 fn list_contains<S: Sighted>(sight: &S, v: &Value, at: Ref) -> Result<bool, WalkEnd>
-    ensures { (make : Bool → Made) → contains (S.sight sight.now) make v.now (out-Value v.now) (Value-F.Ref at) ≡ tested result make }
+    ensures { IsTested result (λ make. contains (S.sight sight.now) make v.now (out-Value v.now) (Value-F.Ref at)) }
 {
     let Some(items) = items_at(sight, at) else {
         return Err(WalkEnd::WrongKind);

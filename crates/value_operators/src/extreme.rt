@@ -1,4 +1,4 @@
-ghost use Rattle.std.specs.Prelude.{◌≡◌, option_map};
+ghost use Rattle.std.specs.Prelude.{◌≡◌, Some, option_map};
 ghost use Rattle.std.specs.Int.{int_min, int_max};
 ghost use Rattle.codon_base.specs.declared.value.Value.{Value-F, out-Value};
 ghost use Rattle.codon_base.specs.Operators.{least_item, greatest_item, chosen_from, chosen_with, ints_in};
@@ -90,7 +90,7 @@ fn greatest_of(values: &[Value]) -> Option<Option<i64>>
 }
 
 fn lesser(best: Option<i64>, number: i64) -> i64
-    ensures { result ≡ chosen_with int_min number best }
+    ensures { Some result ≡ chosen_with int_min number best }
 {
     match best {
         Some(best) => number.min(best),
@@ -99,7 +99,7 @@ fn lesser(best: Option<i64>, number: i64) -> i64
 }
 
 fn greater(best: Option<i64>, number: i64) -> i64
-    ensures { result ≡ chosen_with int_max number best }
+    ensures { Some result ≡ chosen_with int_max number best }
 {
     match best {
         Some(best) => number.max(best),

@@ -2,6 +2,7 @@
 #![tactic(auto)]
 
 mod compare;
+mod conditions;
 mod contain;
 mod convert;
 mod extreme;
@@ -15,9 +16,9 @@ mod place;
 mod repeat;
 mod slices;
 mod text_search;
-mod truth;
 
 pub use compare::{is_equal, is_unequal};
+pub use conditions::{negation, truth, truth_of};
 pub use contain::{is_in, is_not_in};
 pub use convert::{character_from, code_of, int_from, length_of};
 pub use extreme::{greatest_item, least_item};
@@ -31,4 +32,3 @@ pub use order::{greater, greater_equal, greatest, least, less, less_equal};
 pub use place::{indexed, place_of, tuple_item};
 pub use repeat::times;
 pub use slices::{bound_of, sliced};
-pub use truth::{negation, truth, truth_of};

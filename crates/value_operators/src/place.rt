@@ -1,4 +1,4 @@
-ghost use Rattle.std.specs.Prelude.{◌≡◌, ◌≤◌, ◌∷◌, [], option_map, length};
+ghost use Rattle.std.specs.Prelude.{◌≡◌, ◌<◌, ◌∷◌, [], option_map, IfSome};
 ghost use Rattle.std.specs.Option.{option_copied};
 ghost use Rattle.codon_base.specs.declared.value.Value.{Value-F, out-Value};
 ghost use Rattle.codon_base.specs.declared.value.Value.TheVariants as value;
@@ -14,7 +14,8 @@ use std::alloc::Global;
 
 /// The place that an index names in a sequence of that length, or `None` where it is out of range. A negative index counts from the end.
 pub fn place_of(size: usize, index: i64) -> Option<usize>
-    ensures { result ≡ place_of size index }
+    ensures value { result ≡ place_of size index }
+    ensures within { IfSome result (λ place. place < size) }
 {
     if index >= 0 {
         let place = index as u64;
@@ -62,7 +63,7 @@ fn item_at<T>(items: &[T], index: i64) -> Option<&T>
 
 /// An equal value, or the fault where an index named none.
 fn found_item(alloc: Global, item: Option<&Value>) -> Result<Made, Memory>
-    ensures { Makes result (item_made (option_copied item)) }
+    ensures { Makes result (item_made (option_copied item.entry)) }
 {
     match item {
         Some(value) => Ok(Made::Value(value.try_clone(alloc)?)),
