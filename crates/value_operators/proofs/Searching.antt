@@ -3,6 +3,8 @@ use Rattle.std.proofs.Common.{◌≡◌, ℕ, zero, suc, ◌+◌, ◌-◌, ◌<�
 use Rattle.std.specs.Prelude.{nat_eq, is_some, min}
 use Rattle.std.specs.List.{starts_with}
 use Rattle.std.specs.Cmp.Lexicographic.{pointwise, same_text}
+use Rattle.std.proofs.lemmas.Bool.{cases_Bool}
+use Rattle.std.proofs.lemmas.Slice.Eq.{bytes_eq-Decides}
 use Rattle.memchr.specs.Find.{OccursAt, FindsNeedle}
 use Rattle.memchr.proofs.lemmas.MatchLemmas.{OccursAt-part, OccursAt-from_part}
 use Rattle.codon_base.specs.Sequences.{occurs}
@@ -55,4 +57,8 @@ at_place part text p =
 
 -- what a search answers tells whether the part occurs
 pub found_is : (part text : List ℕ) (r : Option ℕ) → FindsNeedle text part 0 r → is_some r ≡ occurs part text
-found_is part text r h = ?
+found_is part text None h = elim (cases_Bool (occurs part text)) [
+    inl here ↦ absurd (let p = at_place part text (place_where part text here) in let inside : p.0 ≤ length text = p.1.0 in h p.0 (omega arith) (omega arith) p.1.1)
+  | inr nowhere ↦ sym nowhere
+  ]
+found_is part text (Some k) h = sym (occurs-at part text k ((bytes_eq-Decides part _).1 (sym (OccursAt-part text part k h.1))))

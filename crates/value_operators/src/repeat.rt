@@ -1,4 +1,4 @@
-ghost use Rattle.std.specs.Prelude.{◌≡◌, ◌*◌, nat_le};
+ghost use Rattle.std.specs.Prelude.{◌≡◌, ◌*◌, nat_le, IfOk};
 ghost use Rattle.codon_base.specs.declared.value.Value.{Value-F, out-Value};
 ghost use Rattle.codon_base.specs.Sequences.{repeated, count_of};
 ghost use Rattle.codon_base.specs.Operators.{times, text_made, list_made, size_limit};
@@ -8,7 +8,7 @@ use crate::Made;
 use crate::compare::WalkEnd;
 use crate::found::items_at;
 use crate::made::{SIZE_LIMIT, int_made, push_all, size_fault, walk_fault, wrong};
-use codon_base::{Memory, Ref, Sighted, Text, Value, wrap_mul};
+use codon_base::{Memory, Ref, Sighted, Text, Value, Values, wrap_mul};
 use sqlite_items::Items;
 use std::alloc::Global;
 
@@ -59,13 +59,21 @@ fn repeated_text(alloc: Global, text: &Text, count: u64) -> Result<Made, Memory>
     if !fits(count, text.len()) {
         return size_fault(alloc);
     }
-    let mut made = Text::new(alloc);
-    if !text.is_empty() {
-        'repeat: for _turn in 0..count {
-            made.append(text)?;
-        }
-    }
+    let made = text_copies(alloc, text, count)?;
     Ok(Made::Value(Value::Text(made)))
+}
+
+fn text_copies(alloc: Global, text: &Text, count: u64) -> Result<Text, Memory>
+    ensures { IfOk result (λ made. made ≡ repeated count text.now) }
+{
+    let mut made = Text::new(alloc);
+    if text.is_empty() {
+        return Ok(made);
+    }
+    'repeat: for _turn in 0..count {
+        made.append(text)?;
+    }
+    Ok(made)
 }
 
 fn repeated_list(alloc: Global, items: &[Value], count: u64) -> Result<Made, Memory>
@@ -74,11 +82,19 @@ fn repeated_list(alloc: Global, items: &[Value], count: u64) -> Result<Made, Mem
     if !fits(count, items.len()) {
         return size_fault(alloc);
     }
-    let mut made = Items::new(alloc);
-    if !items.is_empty() {
-        'repeat: for _turn in 0..count {
-            push_all(alloc, &mut made, items)?;
-        }
-    }
+    let made = list_copies(alloc, items, count)?;
     Ok(Made::List(made))
+}
+
+fn list_copies(alloc: Global, items: &[Value], count: u64) -> Result<Values, Memory>
+    ensures { IfOk result (λ made. made ≡ repeated count items.now) }
+{
+    let mut made = Items::new(alloc);
+    if items.is_empty() {
+        return Ok(made);
+    }
+    'repeat: for _turn in 0..count {
+        push_all(alloc, &mut made, items)?;
+    }
+    Ok(made)
 }
