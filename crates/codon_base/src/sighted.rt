@@ -2,7 +2,7 @@ ghost use Rattle.std.specs.Prelude.{◌≡◌};
 ghost use Rattle.std.specs.Option.{option_copied};
 ghost use Rattle.codon_base.specs.Levels.{object_at};
 
-use crate::{Heap, Holder, Object, Ref};
+use crate::{Holder, Object, Ref};
 
 /// A place of a run at which operators look at objects: it knows the heap, and which lists are lent to the iterations of parallel loops.
 pub trait Sighted {
@@ -19,14 +19,19 @@ pub trait Sighted {
         ensures { result ≡ (sight self.now).lent at };
 }
 
-/// Outside of parallel loops no list is lent.
-impl Sighted for Heap {
+/// A heap of which no list is lent.
+#[derive(Drop)]
+pub struct Unlent<'a, H> {
+    pub heap: &'a H,
+}
+
+impl<H: Holder> Sighted for Unlent<'_, H> {
     ghost use Rattle.std.specs.Prelude.{false};
 
-    ghost sight = { λ heap. record { levels = heap; lent = λ at. false } };
+    ghost sight = { λ place. record { levels = H.levels place.heap.now; lent = λ at. false } };
 
     fn object(&self, at: Ref) -> Option<&Object> {
-        self.get(at)
+        self.heap.get(at)
     }
 
     fn is_lent(&self, _at: Ref) -> bool {
