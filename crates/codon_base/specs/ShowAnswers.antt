@@ -43,4 +43,4 @@ Writes _ _ old new met = ⊥
 
 -- the same of a printer before and after
 abbrev pub Prints : {A : Type 0} → Result A (Or WalkEnd) → Walk (List ℕ) → Printer → Printer → Type 0
-Prints result walk old new = Writes result (walk old.met) old.bytes.items new.bytes.items new.met
+Prints result walk old new = Writes result (walk old.met) old.text new.text new.met

@@ -1,4 +1,6 @@
-ghost use Rattle.std.specs.Prelude.{◌≡◌, true, if◌then◌else◌};
+ghost use Rattle.std.specs.Prelude.{◌≡◌, true, if◌then◌else◌, IsTrue, nat_lt};
+ghost use Rattle.std.specs.List.{list_all};
+ghost use Rattle.std.specs.Fmt.{signed_decimal};
 ghost use Rattle.codon_base.specs.declared.value.Value.{out-Value};
 ghost use Rattle.codon_base.specs.Printed.{shown, text_met, tuple_text, list_text, text_of, more_texts, entered, quoted};
 ghost use Rattle.codon_base.specs.Operators.{whole};
@@ -7,7 +9,7 @@ ghost use Rattle.codon_base.specs.ShowAnswers.{AnswersShown, AnswersWhole, Print
 
 use crate::quote::push_quoted;
 use crate::walk::{NESTING_LIMIT, VALUE_LIMIT, WalkEnd, whole_items};
-use crate::{Bytes, Holder, Or, Ref, Sighted, Unlent, Value};
+use crate::{Bytes, Holder, Or, Ref, Sighted, Text, Unlent, Value};
 use itoa::Buffer;
 use sqlite_items::Items;
 use std::alloc::Global;
@@ -25,7 +27,7 @@ pub enum ShowRefusal {
 /// A walk so far: what it wrote, and how many values it met.
 #[derive(Drop)]
 struct Printer {
-    bytes: Vec<u8>,
+    text: Text,
     met: u32,
 }
 
@@ -39,7 +41,7 @@ pub fn show_value<H: Holder>(
     ensures { AnswersShown result (shown (H.levels heap.now) v.now inside) }
 {
     match show_whole(alloc, &Unlent { heap }, v, inside) {
-        Ok(bytes) => Ok(bytes),
+        Ok(text) => Ok(Items::from_vec(text.into_bytes())),
         Err(Or::No(end)) => Err(refusal_of(end)),
         Err(Or::Memory) => Err(ShowRefusal::Memory),
     }
@@ -61,15 +63,15 @@ pub fn show_whole<S: Sighted>(
     sight: &S,
     v: &Value,
     inside: bool,
-) -> Result<Bytes, Or<WalkEnd>>
+) -> Result<Text, Or<WalkEnd>>
     ensures { AnswersWhole result (text_of (whole (S.sight sight.now)) nesting_limit inside v.now 0) }
 {
     let mut printer = Printer {
-        bytes: Vec::new(alloc),
+        text: Text::new(alloc),
         met: 0,
     };
     show_one(sight, v, inside, NESTING_LIMIT, &mut printer)?;
-    Ok(Items::from_vec(printer.bytes))
+    Ok(printer.text)
 }
 
 /// Walks a value, where `room` more lists and tuples may be entered one inside the other.
@@ -105,10 +107,10 @@ fn show_met<S: Sighted>(
         printer.old printer.new }
 {
     match value {
-        Value::Int(number) => printer.push(Buffer::new().format(*number).as_bytes()),
+        Value::Int(number) => printer.push_number(*number),
         Value::Bool(true) => printer.push(b"True"),
         Value::Bool(false) => printer.push(b"False"),
-        Value::Text(text) => printer.push_text(text.as_bytes(), inside),
+        Value::Text(text) => printer.push_text(text, inside),
         Value::Tuple(values) => show_tuple(sight, values.as_slice(), room, printer),
         Value::Ref(at) => show_list(sight, *at, room, printer),
         Value::Unit => printer.push(b"None"),
@@ -206,27 +208,37 @@ fn show_more<S: Sighted>(
 
 impl Printer {
     fn push(&mut self, text: &[u8]) -> Result<(), Or<WalkEnd>>
+        requires { IsTrue (list_all (λ b. nat_lt b 128) text.now) }
         ensures { Prints result (answer text.now)
             self.old self.new }
     {
-        match self.bytes.extend_from_slice(text) {
+        match self.text.append_bytes(text) {
             Ok(()) => Ok(()),
             Err(_) => Err(Or::Memory),
         }
     }
 
+    fn push_number(&mut self, number: i64) -> Result<(), Or<WalkEnd>>
+        ensures { Prints result (answer (signed_decimal number))
+            self.old self.new }
+    {
+        let mut buffer = Buffer::new();
+        self.push(buffer.format(number).as_bytes())
+    }
+
     /// A text, in quotes where it stands inside a list or a tuple.
-    fn push_text(&mut self, text: &[u8], inside: bool) -> Result<(), Or<WalkEnd>>
+    fn push_text(&mut self, text: &Text, inside: bool) -> Result<(), Or<WalkEnd>>
         ensures { Prints result (answer (if inside then quoted text.now else text.now))
             self.old self.new }
     {
-        if inside {
-            match push_quoted(&mut self.bytes, text) {
-                Ok(()) => Ok(()),
-                Err(_) => Err(Or::Memory),
-            }
+        let pushed = if inside {
+            push_quoted(&mut self.text, text)
         } else {
-            self.push(text)
+            self.text.append(text)
+        };
+        match pushed {
+            Ok(()) => Ok(()),
+            Err(_) => Err(Or::Memory),
         }
     }
 }

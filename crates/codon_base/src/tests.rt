@@ -328,7 +328,8 @@ fn texts_grow_and_compare(rt: HostRuntime) -> Result<(), Fail> {
     assert_eq!(rt; word.compare(&other), Ordering::Less);
     assert!(rt; !word.equals(&other));
     word.append(&other)?;
-    assert_eq!(rt; word.as_bytes(), b"ababc".as_slice());
+    word.append_bytes(b"!")?;
+    assert_eq!(rt; word.as_bytes(), b"ababc!".as_slice());
     assert!(rt; word.try_clone(alloc)?.equals(&word));
     Ok(())
 }
@@ -388,6 +389,8 @@ fn objects_change_in_place(rt: HostRuntime) -> Result<(), Fail> {
     assert!(rt; heap.object_mut(Ref { level: 2, place: 0 }).is_none());
     let place = Unlent { heap: &heap };
     let shown = show_whole(alloc, &place, &below, false)?;
-    assert_eq!(rt; shown.as_slice(), b"[1, 2]".as_slice());
+    assert_eq!(rt; shown.as_bytes(), b"[1, 2]".as_slice());
+    let bytes = shown.into_bytes();
+    assert_eq!(rt; bytes.as_slice(), b"[1, 2]".as_slice());
     Ok(())
 }

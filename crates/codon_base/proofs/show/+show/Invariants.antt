@@ -31,5 +31,5 @@ decreases-show_more g l = 6 * l.room + 6
 abbrev pub invariant-show_more-more : goal.invariant-show_more-more
 invariant-show_more-more g l =
     (r : Result (Unit {0}) (Or WalkEnd)) (new : List ℕ) (met : ℕ) →
-    Writes r (more_texts (text_of (whole (g.S.Sighted.sight l.sight)) l.room true) (drop l.value-index l.values) l.printer.met) l.printer.bytes.items new met →
-    Writes r (more_texts (text_of (whole (g.S.Sighted.sight l.sight)) l.room true) l.values l.initial.printer.met) l.initial.printer.bytes.items new met
+    Writes r (more_texts (text_of (whole (g.S.Sighted.sight l.sight)) l.room true) (drop l.value-index l.values) l.printer.met) l.printer.text new met →
+    Writes r (more_texts (text_of (whole (g.S.Sighted.sight l.sight)) l.room true) l.values l.initial.printer.met) l.initial.printer.text new met
