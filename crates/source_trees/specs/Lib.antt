@@ -2,3 +2,4 @@ pub mod Parts
 pub mod Nodes
 pub mod Heights
 pub mod Bare
+pub mod Prelude
