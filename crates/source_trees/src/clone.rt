@@ -1,0 +1,4 @@
+//! Equal copies of trees.
+
+mod expression;
+mod node;
