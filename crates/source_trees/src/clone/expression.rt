@@ -29,9 +29,7 @@ impl Expr {
                 let names = names.try_clone(alloc)?;
                 let iterable = clone_boxed(alloc, iterable)?;
                 let condition = clone_optional(alloc, condition)?;
-                Ok(Expr::Comprehension(
-                    *node, item, names, iterable, condition,
-                ))
+                Ok(Expr::Comprehension(*node, item, names, iterable, condition))
             }
             Expr::Conditional(node, value, condition, other) => {
                 let value = clone_boxed(alloc, value)?;
@@ -94,10 +92,7 @@ fn clone_boxed(alloc: Global, expr: &Boxed<Expr>) -> Result<Boxed<Expr>, Memory>
 }
 
 #[cycle(clone_expression)]
-fn clone_optional(
-    alloc: Global,
-    expr: &Option<Boxed<Expr>>,
-) -> Result<Option<Boxed<Expr>>, Memory>
+fn clone_optional(alloc: Global, expr: &Option<Boxed<Expr>>) -> Result<Option<Boxed<Expr>>, Memory>
     ensures { IfOk result (λ copy. copy ≡ expr.now) }
 {
     match expr {
