@@ -3,6 +3,7 @@
 
 mod clone;
 mod expression;
+mod height;
 mod item;
 mod node;
 mod operator;
