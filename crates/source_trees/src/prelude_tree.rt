@@ -2,7 +2,7 @@ ghost use Rattle.std.specs.Prelude.{◌≡◌, IfOk};
 ghost use Rattle.source_trees.specs.Prelude as spec;
 
 mod folds;
-mod forms;
+pub(crate) mod forms;
 mod generators;
 
 use crate::{Item, Module};
