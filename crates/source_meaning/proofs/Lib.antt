@@ -1,0 +1,10 @@
+mod Closed
+mod ClosedObjects
+mod ClosedLoops
+mod ClosedExpressions
+mod ClosedPipelines
+mod ClosedStatements
+mod ClosedRuns
+mod Fuel
+pub mod LawsHold
+pub mod Waiting
