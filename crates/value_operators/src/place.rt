@@ -7,9 +7,8 @@ ghost use Rattle.codon_base.specs.Parts.{item_at, item_made, indexed, tuple_item
 ghost use Rattle.value_operators.specs.Answers.{Makes};
 
 use crate::Made;
-use crate::found::items_at;
 use crate::made::{fault, wrong};
-use codon_base::{FaultKind, Memory, Ref, Sighted, Text, Value};
+use codon_base::{FaultKind, Memory, Ref, Sighted, Text, Value, items_at};
 use std::alloc::Global;
 
 /// The place that an index names in a sequence of that length, or `None` where it is out of range. A negative index counts from the end.
