@@ -32,6 +32,23 @@ abbrev pub field_set : ℕ → Value → Object → Option Object
 field_set place value (Listed values) = None
 field_set place value (Instance class fields) = option_map (Instance class) (with_place fields place value)
 
+-- whether an address has no list with an item
+abbrev pub HasNoItem : Option Object → Type 0
+HasNoItem (Some (Listed (v ∷ vs))) = ⊥
+HasNoItem _ = Unit {0}
+
+-- the last item was taken out of an object; or it has none, and nothing changed
+abbrev pub Pops : Option Value → Object → Object → Type 0
+Pops (Some item) (Listed values) (Listed rest) = values ≡ rest ++ item ∷ []
+Pops (Some item) _ new = ⊥
+Pops None (Listed values) new = (values ≡ []) × (new ≡ Listed values)
+Pops None (Instance class fields) new = new ≡ Instance class fields
+
+-- the same of the list at an address
+abbrev pub PopsAt : Option Value → List (List Object) → Ref → List (List Object) → Type 0
+PopsAt (Some item) old at new = (rest : List Value) × ((object_at old at ≡ Some (Listed (rest ++ item ∷ []))) × (new ≡ replaced old at (Listed rest)))
+PopsAt None old at new = HasNoItem (object_at old at) × (new ≡ old)
+
 -- the heap after a change of the object at an address
 abbrev pub changed : (Object → Option Object) → List (List Object) → Ref → Option (List (List Object))
 changed change levels at = option_map (replaced levels at) (option_and_then change (object_at levels at))

@@ -1,6 +1,8 @@
-ghost use Rattle.value_operators.specs.Changing.{item_set, item_pushed, cleared, field_set, changed, Changes};
+ghost use Rattle.std.specs.Prelude.{◌≡◌, ◌++◌, OnOk, OnErr, take};
+ghost use Rattle.value_operators.specs.Changing.{item_set, item_pushed, extended, cleared, field_set, changed, Changes, Pops, PopsAt};
 
-use codon_base::{Heap, Object, Ref, Value};
+use crate::made::push_all;
+use codon_base::{Heap, Memory, Object, Ref, Value, Values};
 use sqlite_items::Items;
 use std::alloc::Global;
 
@@ -13,12 +15,7 @@ pub enum ChangeRefusal {
 }
 
 /// Puts a value in the place of an item of a list, counted from 0.
-pub fn item_set(
-    heap: &mut Heap,
-    at: Ref,
-    place: usize,
-    item: Value,
-) -> Result<(), ChangeRefusal>
+pub fn item_set(heap: &mut Heap, at: Ref, place: usize, item: Value) -> Result<(), ChangeRefusal>
     ensures { Changes result (changed (item_set place item) heap.old at) heap.old heap.new }
 {
     match heap.object_mut(at) {
@@ -37,6 +34,31 @@ pub fn item_pushed(heap: &mut Heap, at: Ref, item: Value) -> Result<(), ChangeRe
     }
 }
 
+/// Takes the last item out of a list. `None` where the address holds no list with an item.
+pub fn item_popped(heap: &mut Heap, at: Ref) -> Option<Value>
+    ensures { PopsAt result heap.old at heap.new }
+{
+    match heap.object_mut(at) {
+        Some(object) => pop_item(object),
+        None => None,
+    }
+}
+
+/// Puts equal items at the end of a list.
+pub fn extended(
+    heap: &mut Heap,
+    alloc: Global,
+    at: Ref,
+    more: &[Value],
+) -> Result<(), ChangeRefusal>
+    ensures { Changes result (changed (extended more.now) heap.old at) heap.old heap.new }
+{
+    match heap.object_mut(at) {
+        Some(object) => extend(object, alloc, more),
+        None => Err(ChangeRefusal::NotThere),
+    }
+}
+
 /// Takes all items out of a list.
 pub fn cleared(heap: &mut Heap, alloc: Global, at: Ref) -> Result<(), ChangeRefusal>
     ensures { Changes result (changed cleared heap.old at) heap.old heap.new }
@@ -48,12 +70,7 @@ pub fn cleared(heap: &mut Heap, alloc: Global, at: Ref) -> Result<(), ChangeRefu
 }
 
 /// Gives a field of an instance a value, by its place in the class, counted from 0.
-pub fn field_set(
-    heap: &mut Heap,
-    at: Ref,
-    place: usize,
-    value: Value,
-) -> Result<(), ChangeRefusal>
+pub fn field_set(heap: &mut Heap, at: Ref, place: usize, value: Value) -> Result<(), ChangeRefusal>
     ensures { Changes result (changed (field_set place value) heap.old at) heap.old heap.new }
 {
     match heap.object_mut(at) {
@@ -87,6 +104,50 @@ fn push_item(object: &mut Object, item: Value) -> Result<(), ChangeRefusal>
             Err(_) => Err(ChangeRefusal::Memory),
         },
         Object::Instance { .. } => Err(ChangeRefusal::NotThere),
+    }
+}
+
+fn pop_item(object: &mut Object) -> Option<Value>
+    ensures { Pops result object.old object.new }
+{
+    match object {
+        Object::List(values) => values.pop(),
+        Object::Instance { .. } => None,
+    }
+}
+
+fn extend(object: &mut Object, alloc: Global, more: &[Value]) -> Result<(), ChangeRefusal>
+    ensures { Changes result (extended more.now object.old) object.old object.new }
+{
+    match object {
+        Object::List(values) => match extend_list(values, alloc, more) {
+            Ok(()) => Ok(()),
+            Err(_) => Err(ChangeRefusal::Memory),
+        },
+        Object::Instance { .. } => Err(ChangeRefusal::NotThere),
+    }
+}
+
+fn extend_list(values: &mut Values, alloc: Global, more: &[Value]) -> Result<(), Memory>
+    ensures ok { OnOk result (values.new ≡ values.old ++ more.now) }
+    ensures err { OnErr result (values.new ≡ values.old) }
+{
+    let size = values.len();
+    match push_all(alloc, values, more) {
+        Ok(()) => Ok(()),
+        Err(memory) => {
+            shorten(values, size);
+            Err(memory)
+        }
+    }
+}
+
+/// Drops the items from a place on.
+fn shorten(values: &mut Values, size: usize)
+    ensures { values.new ≡ take size values.old }
+{
+    'shorten: while values.len() > size {
+        let _ = values.pop();
     }
 }
 

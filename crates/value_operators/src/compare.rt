@@ -7,18 +7,11 @@ ghost use Rattle.value_operators.specs.Comparing.{items_equal};
 
 use crate::Made;
 use crate::made::{bool_made, walk_fault};
-use codon_base::{
-    Memory, NESTING_LIMIT, Ref, Sighted, VALUE_LIMIT, Value, WalkEnd, whole_items,
-};
+use codon_base::{Memory, NESTING_LIMIT, Ref, Sighted, VALUE_LIMIT, Value, WalkEnd, whole_items};
 use std::alloc::Global;
 
 /// `v == w` (Python reference, 6.10.1): by value, lists and tuples item by item.
-pub fn is_equal<S: Sighted>(
-    alloc: Global,
-    sight: &S,
-    v: &Value,
-    w: &Value,
-) -> Result<Made, Memory>
+pub fn is_equal<S: Sighted>(alloc: Global, sight: &S, v: &Value, w: &Value) -> Result<Made, Memory>
     ensures { Makes result (is_equal (S.sight sight.now) v.now w.now) }
 {
     let mut met = 0;

@@ -6,7 +6,7 @@ ghost use Rattle.value_operators.specs.Answers.{Makes};
 use crate::Made;
 use crate::made::{fault, int_made, int_or, text_made, walk_fault, wrong};
 use crate::numeral::number_in;
-use codon_base::{FaultKind, Memory, Ref, Sighted, Text, Value, items_at, Or, show_whole};
+use codon_base::{FaultKind, Memory, Or, Ref, Sighted, Text, Value, items_at, show_whole};
 use std::alloc::Global;
 
 /// `str(v)`: as printed, not inside of a list.

@@ -6,7 +6,7 @@ ghost use Rattle.value_operators.specs.Answers.{Makes};
 
 use crate::Made;
 use crate::made::{int_or, walk_fault, wrong};
-use codon_base::{FaultKind, Memory, Ref, Sighted, Value, items_at, WalkEnd};
+use codon_base::{FaultKind, Memory, Ref, Sighted, Value, WalkEnd, items_at};
 use std::alloc::Global;
 
 /// `min(v)` of a list of ints. An empty list is a fault.

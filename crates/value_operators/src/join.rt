@@ -5,7 +5,7 @@ ghost use Rattle.value_operators.specs.Answers.{Makes};
 
 use crate::Made;
 use crate::made::{SIZE_LIMIT, int_made, push_all, size_fault, walk_fault, wrong};
-use codon_base::{Memory, Ref, Sighted, Text, Value, wrap_add, items_at, WalkEnd};
+use codon_base::{Memory, Ref, Sighted, Text, Value, WalkEnd, items_at, wrap_add};
 use sqlite_items::Items;
 use std::alloc::Global;
 

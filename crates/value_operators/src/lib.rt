@@ -17,7 +17,7 @@ mod repeat;
 mod slices;
 mod text_search;
 
-pub use change::{ChangeRefusal, cleared, field_set, item_pushed, item_set};
+pub use change::{ChangeRefusal, cleared, extended, field_set, item_popped, item_pushed, item_set};
 pub use compare::{is_equal, is_unequal};
 pub use conditions::{negation, truth, truth_of};
 pub use contain::{is_in, is_not_in};
@@ -33,3 +33,6 @@ pub use order::{greater, greater_equal, greatest, least, less, less_equal};
 pub use place::{indexed, place_of, tuple_item};
 pub use repeat::times;
 pub use slices::{bound_of, sliced};
+
+#[cfg(test)]
+mod tests;

@@ -1,4 +1,4 @@
-ghost use Rattle.std.specs.Prelude.{◌≡◌, ◌++◌, OnOk, IsTrue, nat_lt};
+ghost use Rattle.std.specs.Prelude.{◌≡◌, ◌++◌, OnOk, OnErr, take, length, IsTrue, nat_lt};
 ghost use Rattle.std.specs.List.{list_all};
 ghost use Rattle.codon_base.specs.Operators.{fault, fault_of, wrong, size_fault, bool_made, int_made, int_or, text_made};
 ghost use Rattle.codon_base.specs.Ends.{end_of};
@@ -97,7 +97,8 @@ pub(crate) fn int_or(
 
 /// Puts equal values at the end of a list.
 pub(crate) fn push_all(alloc: Global, list: &mut Values, items: &[Value]) -> Result<(), Memory>
-    ensures { OnOk result (list.new ≡ list.old ++ items.now) }
+    ensures ok { OnOk result (list.new ≡ list.old ++ items.now) }
+    ensures err { OnErr result (take (length list.old) list.new ≡ list.old) }
 {
     for item in items {
         list.push(item.try_clone(alloc)?)?;

@@ -18,20 +18,23 @@ pub fn place_of(size: usize, index: i64) -> Option<usize>
 {
     if index >= 0 {
         let place = index as u64;
-        if place < size as u64 { Some(place as usize) } else { None }
+        if place < size as u64 {
+            Some(place as usize)
+        } else {
+            None
+        }
     } else {
         let back = index.unsigned_abs();
-        if back <= size as u64 { Some(size - back as usize) } else { None }
+        if back <= size as u64 {
+            Some(size - back as usize)
+        } else {
+            None
+        }
     }
 }
 
 /// `v[w]` of a text or a list (Python reference, 6.3.2), also of a list that is lent.
-pub fn indexed<S: Sighted>(
-    alloc: Global,
-    sight: &S,
-    v: &Value,
-    w: &Value,
-) -> Result<Made, Memory>
+pub fn indexed<S: Sighted>(alloc: Global, sight: &S, v: &Value, w: &Value) -> Result<Made, Memory>
     ensures { Makes result (indexed (S.sight sight.now) (out-Value v.now) (out-Value w.now)) }
 {
     match (v, w) {

@@ -6,7 +6,7 @@ ghost use Rattle.value_operators.specs.Answers.{Makes};
 
 use crate::Made;
 use crate::made::{SIZE_LIMIT, int_made, push_all, size_fault, walk_fault, wrong};
-use codon_base::{Memory, Ref, Sighted, Text, Value, Values, wrap_mul, items_at, WalkEnd};
+use codon_base::{Memory, Ref, Sighted, Text, Value, Values, WalkEnd, items_at, wrap_mul};
 use sqlite_items::Items;
 use std::alloc::Global;
 

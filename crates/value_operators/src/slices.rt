@@ -7,7 +7,7 @@ ghost use Rattle.value_operators.specs.Answers.{Makes};
 
 use crate::Made;
 use crate::made::{SIZE_LIMIT, push_all, size_fault, text_made, walk_fault, wrong};
-use codon_base::{Memory, Ref, Sighted, Text, Value, items_at, WalkEnd};
+use codon_base::{Memory, Ref, Sighted, Text, Value, WalkEnd, items_at};
 use sqlite_items::Items;
 use std::alloc::Global;
 
