@@ -1,5 +1,5 @@
 use crate::*;
-use codon_base::{Heap, Memory, Object, Ref, Sighted, Text, Unlent, Value, Values};
+use codon_base::{Heap, Holder, Object, Ref, Sighted, Text, Unlent, Value, Values};
 use sqlite_items::Items;
 use std::alloc::Global;
 use std::process::Abort;
@@ -17,7 +17,7 @@ impl Sighted for Lending<'_> {
     ghost sight = { λ place. record { levels = place.heap.now; lent = λ at. true } };
 
     fn object(&self, at: Ref) -> Option<&Object> {
-        codon_base::Holder::get(self.heap, at)
+        self.heap.get(at)
     }
 
     fn is_lent(&self, _at: Ref) -> bool {
@@ -552,10 +552,12 @@ fn fields_are_set(rt: HostRuntime) -> Result<(), Fail> {
         item_pushed(&mut heap, at, Value::Unit),
         Err(ChangeRefusal::NotThere)
     );
-    let Some(Object::Instance { class, fields }) = heap.object_mut(at) else {
-        return Err("no instance".into());
-    };
-    assert_eq!(rt; *class, 3);
-    assert!(rt; matches!(fields.get(1), Some(Value::Int(9))));
-    Ok(())
+    match heap.get(at) {
+        Some(Object::Instance { class, fields }) => {
+            assert_eq!(rt; *class, 3);
+            assert!(rt; matches!(fields.get(1), Some(Value::Int(9))));
+            Ok(())
+        }
+        _ => Err("no instance".into()),
+    }
 }
