@@ -4,3 +4,4 @@ pub mod Searching
 pub mod Choosing
 pub mod Numerals
 pub mod Characters
+pub mod Replacing

@@ -39,9 +39,9 @@ or-cases false b h = inr h
 pub place_where : (part text : List ℕ) → occurs part text ≡ true → Place part text
 place_where part [] h = record { at = 0; within = omega arith; reads = h }
 place_where part (b ∷ bs) h = elim (or-cases (starts_with nat_eq (b ∷ bs) part) (occurs part bs) h) [
-    inl here ↦ record { at = 0; within = omega arith; reads = here }
+  | inl here ↦ record { at = 0; within = omega arith; reads = here }
   | inr later ↦ (let rest = place_where part bs later in let fits : rest.at ≤ length bs = rest.within in record { at = suc (rest.at); within = omega arith; reads = rest.reads })
-  ]
+]
 
 length-take : (n : ℕ) (xs : List ℕ) → length (take n xs) ≤ length xs
 length-take zero xs = omega arith
@@ -58,7 +58,7 @@ at_place part text p =
 -- what a search answers tells whether the part occurs
 pub found_is : (part text : List ℕ) (r : Option ℕ) → FindsNeedle text part 0 r → is_some r ≡ occurs part text
 found_is part text None h = elim (cases_Bool (occurs part text)) [
-    inl here ↦ absurd (let p = at_place part text (place_where part text here) in let inside : p.0 ≤ length text = p.1.0 in h p.0 (omega arith) (omega arith) p.1.1)
+  | inl here ↦ absurd (let p = at_place part text (place_where part text here) in let inside : p.0 ≤ length text = p.1.0 in h p.0 (omega arith) (omega arith) p.1.1)
   | inr nowhere ↦ sym nowhere
-  ]
+]
 found_is part text (Some k) h = sym (occurs-at part text k ((bytes_eq-Decides part _).1 (sym (OccursAt-part text part k h.1))))

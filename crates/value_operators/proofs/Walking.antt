@@ -6,8 +6,8 @@ use Rattle.codon_base.specs.declared.value.Value.{Value}
 use Rattle.codon_base.specs.declared.value.Value.TheViews.{out-Value}
 use Rattle.codon_base.specs.Walks.{Walked, Seen, value_limit}
 use Rattle.codon_base.specs.Compared.{equal, equal_met}
-use Rattle.value_operators.specs.declared.compare.WalkEnd.{WalkEnd}
-use Rattle.value_operators.specs.declared.compare.WalkEnd.TheVariants.{TooLarge}
+use Rattle.codon_base.specs.declared.walk.WalkEnd.{WalkEnd}
+use Rattle.codon_base.specs.declared.walk.WalkEnd.TheVariants.{TooLarge}
 use Rattle.value_operators.specs.Answers.{Judges}
 use Rattle.value_operators.specs.Comparing.{items_equal}
 

@@ -1,14 +1,13 @@
 -- What the functions of this crate answer, beside what the operators make.
-use Rattle.std.specs.Prelude.{◌≡◌, ℕ, Bool, List, Option, Some, None, Result, Ok, Err}
-use Rattle.std.specs.Borrow.{Bor}
+use Rattle.std.specs.Prelude.{◌≡◌, ℕ, Bool, Result, Ok, Err}
 use Rattle.codon_base.specs.declared.memory.Memory.{Memory}
-use Rattle.codon_base.specs.declared.value.Value.{Value}
 use Rattle.codon_base.specs.Operators.{Made, made, new_list, fault, fault_of}
-use Rattle.codon_base.specs.Walks.{End, wrong_kind, lent_list, too_large, Walked, going, ended, Walk, Seen, items, barred}
+use Rattle.codon_base.specs.Walks.{wrong_kind, lent_list, too_large, Walked, going, ended}
 use Rattle.value_operators.specs.declared.made.Made.{Made as Answer}
 use Rattle.value_operators.specs.declared.made.Made.TheVariants as answer
-use Rattle.value_operators.specs.declared.compare.WalkEnd.{WalkEnd}
-use Rattle.value_operators.specs.declared.compare.WalkEnd.TheVariants as reason
+use Rattle.codon_base.specs.declared.walk.WalkEnd.{WalkEnd}
+use Rattle.codon_base.specs.declared.walk.WalkEnd.TheVariants as reason
+use Rattle.codon_base.specs.Ends.{end_of}
 
 -- what an answer says that the operator makes
 abbrev pub made_of : Answer → Made
@@ -20,21 +19,6 @@ made_of (answer.Fault f) = fault f.kind f.text
 abbrev pub Makes : Result Answer Memory → Made → Type 0
 Makes (Ok m) wanted = made_of m ≡ wanted
 Makes (Err e) wanted = Unit {0}
-
-abbrev pub end_of : WalkEnd → End
-end_of reason.WrongKind = wrong_kind
-end_of reason.LentList = lent_list
-end_of reason.TooLarge = too_large
-
--- the items of a list that may be looked at, or why it may not
-abbrev pub IsSeen : Result (Bor (List Value)) WalkEnd → Seen → Type 0
-IsSeen (Ok values) seen = seen ≡ items values.now
-IsSeen (Err e) seen = seen ≡ barred (end_of e)
-
--- the items that stand at an address, or none where no list stands there
-abbrev pub IsFound : Option (List Value) → Seen → Type 0
-IsFound (Some values) seen = seen ≡ items values
-IsFound None seen = seen ≡ barred wrong_kind
 
 -- the walk came to its answer after that many values, or it ended for the reason of the refusal
 abbrev pub Judges : {A : Type 0} → Result A WalkEnd → Walked A → ℕ → Type 0

@@ -6,35 +6,12 @@ ghost use Rattle.value_operators.specs.Answers.{Judges, Makes};
 ghost use Rattle.value_operators.specs.Comparing.{items_equal};
 
 use crate::Made;
-use crate::found::whole_items;
 use crate::made::{bool_made, walk_fault};
-use codon_base::{Memory, Ref, Sighted, Value};
+use codon_base::{Memory, NESTING_LIMIT, Ref, Sighted, VALUE_LIMIT, Value, WalkEnd, whole_items};
 use std::alloc::Global;
 
-/// Why a walk over values ends before its answer is known.
-#[derive(Clone, Copy, Debug, PartialEq, Eq)]
-pub(crate) enum WalkEnd {
-    /// At a value for which the walk has no rule.
-    WrongKind,
-    /// At a list that is lent to parallel iterations.
-    LentList,
-    /// Past one of its limits.
-    TooLarge,
-}
-
-/// How many pairs of values one walk may meet.
-const VALUE_LIMIT: u32 = 33_554_432;
-
-/// How many lists and tuples one walk may enter one inside the other.
-const NESTING_LIMIT: u32 = 1_000;
-
 /// `v == w` (Python reference, 6.10.1): by value, lists and tuples item by item.
-pub fn is_equal<S: Sighted>(
-    alloc: Global,
-    sight: &S,
-    v: &Value,
-    w: &Value,
-) -> Result<Made, Memory>
+pub fn is_equal<S: Sighted>(alloc: Global, sight: &S, v: &Value, w: &Value) -> Result<Made, Memory>
     ensures { Makes result (is_equal (S.sight sight.now) v.now w.now) }
 {
     let mut met = 0;

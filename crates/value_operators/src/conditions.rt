@@ -5,9 +5,8 @@ ghost use Rattle.codon_base.specs.Walks.{seen_in};
 ghost use Rattle.value_operators.specs.Answers.{Makes};
 
 use crate::Made;
-use crate::found::items_at;
 use crate::made::{bool_made, wrong};
-use codon_base::{Memory, Ref, Sighted, Value};
+use codon_base::{Memory, Ref, Sighted, Value, items_at};
 use std::alloc::Global;
 
 /// The truth of a bool, an int, a text or a list, also of a list that is lent (Python reference, 4.1 of the library): false are False, 0 and what is empty. `None` for other values.

@@ -3,11 +3,10 @@ ghost use Rattle.codon_base.specs.Operators.{contains, is_in, is_not_in};
 ghost use Rattle.value_operators.specs.Answers.{Makes, IsTested};
 
 use crate::Made;
-use crate::compare::{WalkEnd, is_member};
-use crate::found::items_at;
+use crate::compare::is_member;
 use crate::made::{bool_made, walk_fault};
 use crate::text_search::occurs;
-use codon_base::{Memory, Ref, Sighted, Value};
+use codon_base::{Memory, Ref, Sighted, Value, WalkEnd, items_at};
 use std::alloc::Global;
 
 /// `v in w` (Python reference, 6.10.2): some item of a list is equal, or a text stands in a text.
@@ -21,12 +20,7 @@ pub fn is_in<S: Sighted>(alloc: Global, sight: &S, v: &Value, w: &Value) -> Resu
 }
 
 /// `v not in w` (6.10.2).
-pub fn is_not_in<S: Sighted>(
-    alloc: Global,
-    sight: &S,
-    v: &Value,
-    w: &Value,
-) -> Result<Made, Memory>
+pub fn is_not_in<S: Sighted>(alloc: Global, sight: &S, v: &Value, w: &Value) -> Result<Made, Memory>
     ensures { Makes result (is_not_in (S.sight sight.now) v.now w.now) }
 {
     match contains(sight, v, w) {

@@ -1,14 +1,24 @@
 ghost use Rattle.std.specs.Prelude.{◌≡◌, Some};
 ghost use Rattle.codon_base.specs.declared.value.Value.{Value-F, out-Value};
-ghost use Rattle.codon_base.specs.Operators.{int_from, code_of, only_code, character_from, character_of, length_of};
+ghost use Rattle.codon_base.specs.Operators.{text_from, int_from, code_of, only_code, character_from, character_of, length_of};
 ghost use Rattle.value_operators.specs.Answers.{Makes};
 
 use crate::Made;
-use crate::found::items_at;
-use crate::made::{fault, int_made, int_or, wrong};
+use crate::made::{fault, int_made, int_or, text_made, walk_fault, wrong};
 use crate::numeral::number_in;
-use codon_base::{FaultKind, Memory, Ref, Sighted, Text, Value};
+use codon_base::{FaultKind, Memory, Or, Ref, Sighted, Text, Value, items_at, show_whole};
 use std::alloc::Global;
+
+/// `str(v)`: as printed, not inside of a list.
+pub fn text_from<S: Sighted>(alloc: Global, sight: &S, v: &Value) -> Result<Made, Memory>
+    ensures { Makes result (text_from (S.sight sight.now) v.now) }
+{
+    match show_whole(alloc, sight, v, false) {
+        Ok(text) => text_made(alloc, text),
+        Err(Or::No(end)) => walk_fault(alloc, end),
+        Err(Or::Memory) => Err(Memory),
+    }
+}
 
 /// `int(v)` of an int, a bool or a text. A text is a sign or none and digits, in range.
 pub fn int_from(alloc: Global, v: &Value) -> Result<Made, Memory>

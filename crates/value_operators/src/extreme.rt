@@ -5,10 +5,8 @@ ghost use Rattle.codon_base.specs.Operators.{least_item, greatest_item, chosen_f
 ghost use Rattle.value_operators.specs.Answers.{Makes};
 
 use crate::Made;
-use crate::compare::WalkEnd;
-use crate::found::items_at;
 use crate::made::{int_or, walk_fault, wrong};
-use codon_base::{FaultKind, Memory, Ref, Sighted, Value};
+use codon_base::{FaultKind, Memory, Ref, Sighted, Value, WalkEnd, items_at};
 use std::alloc::Global;
 
 /// `min(v)` of a list of ints. An empty list is a fault.

@@ -4,10 +4,8 @@ ghost use Rattle.codon_base.specs.Operators.{plus, text_made, list_made};
 ghost use Rattle.value_operators.specs.Answers.{Makes};
 
 use crate::Made;
-use crate::compare::WalkEnd;
-use crate::found::items_at;
 use crate::made::{SIZE_LIMIT, int_made, push_all, size_fault, walk_fault, wrong};
-use codon_base::{Memory, Ref, Sighted, Text, Value, wrap_add};
+use codon_base::{Memory, Ref, Sighted, Text, Value, WalkEnd, items_at, wrap_add};
 use sqlite_items::Items;
 use std::alloc::Global;
 

@@ -1,10 +1,10 @@
-ghost use Rattle.std.specs.Prelude.{◌≡◌, ◌++◌, OnOk, IsTrue, nat_lt};
+ghost use Rattle.std.specs.Prelude.{◌≡◌, ◌++◌, OnOk, OnErr, take, length, IsTrue, nat_lt};
 ghost use Rattle.std.specs.List.{list_all};
-ghost use Rattle.codon_base.specs.Operators.{fault, fault_of, wrong, size_fault, bool_made, int_made, int_or};
-ghost use Rattle.value_operators.specs.Answers.{made_of, Makes, end_of};
+ghost use Rattle.codon_base.specs.Operators.{fault, fault_of, wrong, size_fault, bool_made, int_made, int_or, text_made};
+ghost use Rattle.codon_base.specs.Ends.{end_of};
+ghost use Rattle.value_operators.specs.Answers.{made_of, Makes};
 
-use crate::compare::WalkEnd;
-use codon_base::{Fault, FaultKind, Memory, Text, Value, Values};
+use codon_base::{Fault, FaultKind, Memory, Text, Value, Values, WalkEnd};
 use std::alloc::Global;
 
 /// What an operator makes of its operands.
@@ -69,6 +69,16 @@ pub(crate) fn int_made(number: i64) -> Made
     Made::Value(Value::Int(number))
 }
 
+/// A text, as far as it is not too large.
+pub(crate) fn text_made(alloc: Global, text: Text) -> Result<Made, Memory>
+    ensures { Makes result (text_made text) }
+{
+    if text.len() > SIZE_LIMIT {
+        return size_fault(alloc);
+    }
+    Ok(Made::Value(Value::Text(text)))
+}
+
 /// A number, or the fault that stands where there is none.
 pub(crate) fn int_or(
     alloc: Global,
@@ -87,7 +97,8 @@ pub(crate) fn int_or(
 
 /// Puts equal values at the end of a list.
 pub(crate) fn push_all(alloc: Global, list: &mut Values, items: &[Value]) -> Result<(), Memory>
-    ensures { OnOk result (list.new ≡ list.old ++ items.now) }
+    ensures ok { OnOk result (list.new ≡ list.old ++ items.now) }
+    ensures err { OnErr result (take (length list.old) list.new ≡ list.old) }
 {
     for item in items {
         list.push(item.try_clone(alloc)?)?;

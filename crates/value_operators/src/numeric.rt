@@ -5,7 +5,8 @@ ghost use Rattle.value_operators.specs.Answers.{Makes};
 use crate::Made;
 use crate::made::{int_made, int_or, wrong};
 use codon_base::{
-    FaultKind, Memory, Value, floor_div, floor_mod, shift_left, shift_right, wrap_neg, wrap_pow, wrap_sub,
+    FaultKind, Memory, Value, floor_div, floor_mod, shift_left, shift_right, wrap_neg, wrap_pow,
+    wrap_sub,
 };
 use std::alloc::Global;
 

@@ -7,9 +7,8 @@ ghost use Rattle.codon_base.specs.Parts.{item_at, item_made, indexed, tuple_item
 ghost use Rattle.value_operators.specs.Answers.{Makes};
 
 use crate::Made;
-use crate::found::items_at;
 use crate::made::{fault, wrong};
-use codon_base::{FaultKind, Memory, Ref, Sighted, Text, Value};
+use codon_base::{FaultKind, Memory, Ref, Sighted, Text, Value, items_at};
 use std::alloc::Global;
 
 /// The place that an index names in a sequence of that length, or `None` where it is out of range. A negative index counts from the end.
@@ -19,20 +18,23 @@ pub fn place_of(size: usize, index: i64) -> Option<usize>
 {
     if index >= 0 {
         let place = index as u64;
-        if place < size as u64 { Some(place as usize) } else { None }
+        if place < size as u64 {
+            Some(place as usize)
+        } else {
+            None
+        }
     } else {
         let back = index.unsigned_abs();
-        if back <= size as u64 { Some(size - back as usize) } else { None }
+        if back <= size as u64 {
+            Some(size - back as usize)
+        } else {
+            None
+        }
     }
 }
 
 /// `v[w]` of a text or a list (Python reference, 6.3.2), also of a list that is lent.
-pub fn indexed<S: Sighted>(
-    alloc: Global,
-    sight: &S,
-    v: &Value,
-    w: &Value,
-) -> Result<Made, Memory>
+pub fn indexed<S: Sighted>(alloc: Global, sight: &S, v: &Value, w: &Value) -> Result<Made, Memory>
     ensures { Makes result (indexed (S.sight sight.now) (out-Value v.now) (out-Value w.now)) }
 {
     match (v, w) {

@@ -5,10 +5,8 @@ ghost use Rattle.codon_base.specs.Operators.{times, text_made, list_made, size_l
 ghost use Rattle.value_operators.specs.Answers.{Makes};
 
 use crate::Made;
-use crate::compare::WalkEnd;
-use crate::found::items_at;
 use crate::made::{SIZE_LIMIT, int_made, push_all, size_fault, walk_fault, wrong};
-use codon_base::{Memory, Ref, Sighted, Text, Value, Values, wrap_mul};
+use codon_base::{Memory, Ref, Sighted, Text, Value, Values, WalkEnd, items_at, wrap_mul};
 use sqlite_items::Items;
 use std::alloc::Global;
 

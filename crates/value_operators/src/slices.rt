@@ -6,10 +6,8 @@ ghost use Rattle.codon_base.specs.Parts.{bound_in, bounds_in, slice_made};
 ghost use Rattle.value_operators.specs.Answers.{Makes};
 
 use crate::Made;
-use crate::compare::WalkEnd;
-use crate::found::items_at;
-use crate::made::{SIZE_LIMIT, push_all, size_fault, walk_fault, wrong};
-use codon_base::{Memory, Ref, Sighted, Text, Value};
+use crate::made::{SIZE_LIMIT, push_all, size_fault, text_made, walk_fault, wrong};
+use codon_base::{Memory, Ref, Sighted, Text, Value, WalkEnd, items_at};
 use sqlite_items::Items;
 use std::alloc::Global;
 
@@ -55,11 +53,7 @@ fn sliced_text(alloc: Global, text: &Text, from: &Value, to: &Value) -> Result<M
 fn text_part(alloc: Global, text: &Text, start: usize, end: usize) -> Result<Made, Memory>
     ensures { Makes result (text_made (sliced text.now start end)) }
 {
-    let part = text.slice(alloc, start, end)?;
-    if part.len() > SIZE_LIMIT {
-        return size_fault(alloc);
-    }
-    Ok(Made::Value(Value::Text(part)))
+    text_made(alloc, text.slice(alloc, start, end)?)
 }
 
 fn sliced_list<S: Sighted>(

@@ -1,7 +1,7 @@
 use Rattle.std.proofs.Common.{ℕ, ◌+◌, ◌*◌, Bool, Result, drop}
 use Rattle.codon_base.specs.Compared.{equal, all_equal}
 use Rattle.codon_base.specs.Operators.{whole}
-use Rattle.value_operators.specs.declared.compare.WalkEnd.{WalkEnd}
+use Rattle.codon_base.specs.declared.walk.WalkEnd.{WalkEnd}
 use Rattle.value_operators.specs.Answers.{Judges}
 use Rattle.value_operators.proofs.compare.+compare.Given as goal
 
