@@ -479,7 +479,7 @@ fn lists_are_compared(rt: HostRuntime) -> Result<(), Fail> {
         &place,
         &two,
         &longer,
-        [b"False".as_slice(), b"True", b"False", b"True"],
+        [b"False".as_slice(), b"True", no, no],
     )
 }
 
