@@ -8,3 +8,13 @@ mod ClosedRuns
 mod Fuel
 pub mod LawsHold
 pub mod Waiting
+pub mod BodyEquations
+pub mod Held
+pub mod Rest
+pub mod Left
+pub mod Sets
+pub mod Results
+pub mod Private
+mod Steady
+pub mod Iterating
+pub mod GivenValues

@@ -17,3 +17,13 @@ pub mod Pipelines
 pub mod Statements
 pub mod Meaning
 pub mod Laws
+pub mod Scopes
+pub mod Seen
+pub mod Tasks
+pub mod Lists
+pub mod Walked
+pub mod Callees
+pub mod Flows
+pub mod Frames
+pub mod Steps
+pub mod Inside
