@@ -9,6 +9,8 @@ mod Fuel
 pub mod LawsHold
 pub mod Waiting
 pub mod BodyEquations
+pub mod NoteEquations
+pub mod ThreeNotes
 pub mod Held
 pub mod Rest
 pub mod Left

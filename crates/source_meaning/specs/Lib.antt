@@ -27,3 +27,4 @@ pub mod Flows
 pub mod Frames
 pub mod Steps
 pub mod Inside
+pub mod Noted

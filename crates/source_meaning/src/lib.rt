@@ -9,6 +9,7 @@ mod frames;
 mod iterable;
 mod iterations;
 mod law;
+mod mentions;
 mod names;
 mod prepared;
 mod ranges;
