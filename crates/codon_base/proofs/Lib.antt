@@ -4,3 +4,4 @@ pub mod Shifts
 pub mod Remainders
 pub mod CellLaws
 pub mod Writing
+pub mod NeverLent

@@ -13,6 +13,14 @@ object_in None place = None
 abbrev pub object_at : List (List Object) → Ref → Option Object
 object_at levels at = object_in (slice_get levels at.level) at.place
 
+-- the objects of the level with that number, where there is one
+abbrev pub level_at : List (List Object) → ℕ → List Object
+level_at levels number = slice_index_or levels number []
+
+-- the levels with another object at an address
+abbrev pub replaced : List (List Object) → Ref → Object → List (List Object)
+replaced levels at object = slice_set levels at.level (slice_set (level_at levels at.level) at.place object)
+
 -- the number of the last level, where new objects go
 abbrev pub last_level : List (List Object) → ℕ
 last_level levels = length levels - 1

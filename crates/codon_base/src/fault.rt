@@ -1,4 +1,7 @@
-use crate::Text;
+ghost use Rattle.std.specs.Prelude.{◌≡◌, IfOk};
+
+use crate::{Memory, Text};
+use std::alloc::Global;
 
 /// The kind of a fault, which is printed as the name of an exception.
 #[derive(Clone, Copy, Debug, PartialEq, Eq)]
@@ -26,6 +29,18 @@ pub struct Fault {
     pub text: Text,
 }
 
+impl Fault {
+    /// An equal fault.
+    pub fn try_clone(&self, alloc: Global) -> Result<Fault, Memory>
+        ensures { IfOk result (λ fault. fault ≡ self.now) }
+    {
+        Ok(Fault {
+            kind: self.kind,
+            text: self.text.try_clone(alloc)?,
+        })
+    }
+}
+
 /// How a run of a program ended.
 #[derive(Drop)]
 pub enum Ending {
@@ -33,4 +48,17 @@ pub enum Ending {
     Fault(Fault),
     /// A tick found no fuel left.
     OutOfFuel,
+}
+
+impl Ending {
+    /// An equal ending.
+    pub fn try_clone(&self, alloc: Global) -> Result<Ending, Memory>
+        ensures { IfOk result (λ ending. ending ≡ self.now) }
+    {
+        Ok(match self {
+            Ending::Done => Ending::Done,
+            Ending::Fault(fault) => Ending::Fault(fault.try_clone(alloc)?),
+            Ending::OutOfFuel => Ending::OutOfFuel,
+        })
+    }
 }

@@ -39,6 +39,10 @@ impl Model for Level {
 }
 
 impl Level {
+    ghost use Rattle.std.specs.Borrow.{sem};
+    ghost use Rattle.std.specs.Option.{option_copied_mut};
+    ghost use Rattle.codon_base.specs.Changes.{LendsPlace};
+
     fn new(alloc: Global) -> Level
         ensures { result ≡ [] }
     {
@@ -69,6 +73,13 @@ impl Level {
     {
         self.objects.get(place as usize)
     }
+
+    fn object_mut(&mut self, place: u64) -> Option<&mut Object>
+        ensures* lends { sem 𝓛 (LendsPlace self.entry place result) }
+        ensures value { option_copied_mut result ≡ slice_get self.old place }
+    {
+        self.objects.get_mut(place as usize)
+    }
 }
 
 /// The objects of a run, by levels. Level 0 is the program's; each parallel iteration has a level of its own above those that were there.
@@ -94,6 +105,10 @@ impl Model for Heap {
 }
 
 impl Heap {
+    ghost use Rattle.std.specs.Borrow.{sem};
+    ghost use Rattle.std.specs.Option.{option_copied_mut};
+    ghost use Rattle.codon_base.specs.Changes.{LendsLevel, LendsObject};
+
     /// A heap with level 0, which holds nothing.
     pub fn new(alloc: Global) -> Result<Heap, Memory>
         ensures { IfOk result (λ heap. heap ≡ [] ∷ []) }
@@ -139,6 +154,22 @@ impl Heap {
             }),
             Err(back) => Err(back),
         }
+    }
+
+    /// The object at an address for changes, where there is one.
+    pub fn object_mut(&mut self, at: Ref) -> Option<&mut Object>
+        ensures* lends { sem 𝓛 (LendsObject self.entry at result) }
+        ensures value { option_copied_mut result ≡ object_at self.old at }
+    {
+        let level = self.level_mut(at.level)?;
+        level.object_mut(at.place)
+    }
+
+    fn level_mut(&mut self, number: u32) -> Option<&mut Level>
+        ensures* lends { sem 𝓛 (LendsLevel self.entry number result) }
+        ensures value { option_copied_mut result ≡ slice_get self.old number }
+    {
+        self.levels.get_mut(number as usize)
     }
 }
 

@@ -1,11 +1,15 @@
-ghost use Rattle.std.specs.Prelude.{true, if◌then◌else◌};
+ghost use Rattle.std.specs.Prelude.{◌≡◌, true, if◌then◌else◌, IsTrue, nat_lt};
+ghost use Rattle.std.specs.List.{list_all};
+ghost use Rattle.std.specs.Fmt.{signed_decimal};
 ghost use Rattle.codon_base.specs.declared.value.Value.{out-Value};
 ghost use Rattle.codon_base.specs.Printed.{shown, text_met, tuple_text, list_text, text_of, more_texts, entered, quoted};
-ghost use Rattle.codon_base.specs.Walks.{seen_in, items, answer};
-ghost use Rattle.codon_base.specs.ShowAnswers.{AnswersShown, Prints};
+ghost use Rattle.codon_base.specs.Operators.{whole};
+ghost use Rattle.codon_base.specs.Walks.{items, answer, nesting_limit};
+ghost use Rattle.codon_base.specs.ShowAnswers.{AnswersShown, AnswersWhole, Prints, refusal_of};
 
 use crate::quote::push_quoted;
-use crate::{Bytes, Holder, Object, Ref, Value};
+use crate::walk::{NESTING_LIMIT, VALUE_LIMIT, WalkEnd, whole_items};
+use crate::{Bytes, Holder, Or, Ref, Sighted, Text, Unlent, Value};
 use itoa::Buffer;
 use sqlite_items::Items;
 use std::alloc::Global;
@@ -20,16 +24,10 @@ pub enum ShowRefusal {
     Memory,
 }
 
-/// How many values one walk may meet.
-const VALUE_LIMIT: u32 = 33_554_432;
-
-/// How many lists and tuples one walk may enter one inside the other.
-const NESTING_LIMIT: u32 = 1_000;
-
 /// A walk so far: what it wrote, and how many values it met.
 #[derive(Drop)]
 struct Printer {
-    bytes: Vec<u8>,
+    text: Text,
     met: u32,
 }
 
@@ -42,169 +40,205 @@ pub fn show_value<H: Holder>(
 ) -> Result<Bytes, ShowRefusal>
     ensures { AnswersShown result (shown (H.levels heap.now) v.now inside) }
 {
+    match show_whole(alloc, &Unlent { heap }, v, inside) {
+        Ok(text) => Ok(Items::from_vec(text.into_bytes())),
+        Err(Or::No(end)) => Err(refusal_of(end)),
+        Err(Or::Memory) => Err(ShowRefusal::Memory),
+    }
+}
+
+/// The refusal where no list is lent.
+fn refusal_of(end: WalkEnd) -> ShowRefusal
+    ensures { result ≡ refusal_of end }
+{
+    match end {
+        WalkEnd::WrongKind | WalkEnd::LentList => ShowRefusal::NotShown,
+        WalkEnd::TooLarge => ShowRefusal::TooLarge,
+    }
+}
+
+/// The same at a place where lists may be lent. A list that is lent has no text there.
+pub fn show_whole<S: Sighted>(
+    alloc: Global,
+    sight: &S,
+    v: &Value,
+    inside: bool,
+) -> Result<Text, Or<WalkEnd>>
+    ensures { AnswersWhole result (text_of (whole (S.sight sight.now)) nesting_limit inside v.now 0) }
+{
     let mut printer = Printer {
-        bytes: Vec::new(alloc),
+        text: Text::new(alloc),
         met: 0,
     };
-    show_one(heap, v, inside, NESTING_LIMIT, &mut printer)?;
-    Ok(Items::from_vec(printer.bytes))
+    show_one(sight, v, inside, NESTING_LIMIT, &mut printer)?;
+    Ok(printer.text)
 }
 
 /// Walks a value, where `room` more lists and tuples may be entered one inside the other.
 #[cycle(show)]
-fn show_one<H: Holder>(
-    heap: &H,
+fn show_one<S: Sighted>(
+    sight: &S,
     value: &Value,
     inside: bool,
     room: u32,
     printer: &mut Printer,
-) -> Result<(), ShowRefusal>
-    ensures { Prints result (text_of (seen_in (H.levels heap.now)) room inside value.now)
+) -> Result<(), Or<WalkEnd>>
+    ensures { Prints result (text_of (whole (S.sight sight.now)) room inside value.now)
         printer.old printer.new }
 {
     if printer.met >= VALUE_LIMIT {
-        return Err(ShowRefusal::TooLarge);
+        return Err(Or::No(WalkEnd::TooLarge));
     }
     printer.met += 1;
-    show_met(heap, value, inside, room, printer)
+    show_met(sight, value, inside, room, printer)
 }
 
 /// Goes on with a value that was met.
 #[cycle(show)]
-fn show_met<H: Holder>(
-    heap: &H,
+fn show_met<S: Sighted>(
+    sight: &S,
     value: &Value,
     inside: bool,
     room: u32,
     printer: &mut Printer,
-) -> Result<(), ShowRefusal>
-    ensures { let look = seen_in (H.levels heap.now) in
+) -> Result<(), Or<WalkEnd>>
+    ensures { let look = whole (S.sight sight.now) in
         Prints result (text_met (entered look room) look inside (out-Value value.now))
         printer.old printer.new }
 {
     match value {
-        Value::Int(number) => printer.push(Buffer::new().format(*number).as_bytes()),
+        Value::Int(number) => printer.push_number(*number),
         Value::Bool(true) => printer.push(b"True"),
         Value::Bool(false) => printer.push(b"False"),
-        Value::Text(text) => printer.push_text(text.as_bytes(), inside),
-        Value::Tuple(values) => show_tuple(heap, values.as_slice(), room, printer),
-        Value::Ref(at) => show_list(heap, *at, room, printer),
+        Value::Text(text) => printer.push_text(text, inside),
+        Value::Tuple(values) => show_tuple(sight, values.as_slice(), room, printer),
+        Value::Ref(at) => show_list(sight, *at, room, printer),
         Value::Unit => printer.push(b"None"),
-        Value::Unset => Err(ShowRefusal::NotShown),
+        Value::Unset => Err(Or::No(WalkEnd::WrongKind)),
     }
 }
 
 #[cycle(show)]
-fn show_tuple<H: Holder>(
-    heap: &H,
+fn show_tuple<S: Sighted>(
+    sight: &S,
     values: &[Value],
     room: u32,
     printer: &mut Printer,
-) -> Result<(), ShowRefusal>
-    ensures { Prints result (tuple_text (entered (seen_in (H.levels heap.now)) room) values.now)
+) -> Result<(), Or<WalkEnd>>
+    ensures { Prints result (tuple_text (entered (whole (S.sight sight.now)) room) values.now)
         printer.old printer.new }
 {
     printer.push(b"(")?;
-    show_items(heap, values, room, printer)?;
+    show_items(sight, values, room, printer)?;
     printer.push(if values.len() == 1 { b",)" } else { b")" })
 }
 
 #[cycle(show)]
-fn show_list<H: Holder>(
-    heap: &H,
+fn show_list<S: Sighted>(
+    sight: &S,
     at: Ref,
     room: u32,
     printer: &mut Printer,
-) -> Result<(), ShowRefusal>
-    ensures { let look = seen_in (H.levels heap.now) in
+) -> Result<(), Or<WalkEnd>>
+    ensures { let look = whole (S.sight sight.now) in
         Prints result (list_text (entered look room) (look at))
         printer.old printer.new }
 {
-    match heap.get(at) {
-        Some(Object::List(values)) => show_list_items(heap, values.as_slice(), room, printer),
-        Some(Object::Instance { .. }) | None => Err(ShowRefusal::NotShown),
+    match whole_items(sight, at) {
+        Ok(values) => show_list_items(sight, values, room, printer),
+        Err(end) => Err(Or::No(end)),
     }
 }
 
 #[cycle(show)]
-fn show_list_items<H: Holder>(
-    heap: &H,
+fn show_list_items<S: Sighted>(
+    sight: &S,
     values: &[Value],
     room: u32,
     printer: &mut Printer,
-) -> Result<(), ShowRefusal>
-    ensures { Prints result (list_text (entered (seen_in (H.levels heap.now)) room) (items values.now))
+) -> Result<(), Or<WalkEnd>>
+    ensures { Prints result (list_text (entered (whole (S.sight sight.now)) room) (items values.now))
         printer.old printer.new }
 {
     printer.push(b"[")?;
-    show_items(heap, values, room, printer)?;
+    show_items(sight, values, room, printer)?;
     printer.push(b"]")
 }
 
 /// Walks the items of a list or a tuple that is entered, with `, ` between them.
 #[cycle(show)]
-fn show_items<H: Holder>(
-    heap: &H,
+fn show_items<S: Sighted>(
+    sight: &S,
     values: &[Value],
     room: u32,
     printer: &mut Printer,
-) -> Result<(), ShowRefusal>
-    ensures { Prints result (entered (seen_in (H.levels heap.now)) room values.now)
+) -> Result<(), Or<WalkEnd>>
+    ensures { Prints result (entered (whole (S.sight sight.now)) room values.now)
         printer.old printer.new }
 {
     if room == 0 {
-        return Err(ShowRefusal::TooLarge);
+        return Err(Or::No(WalkEnd::TooLarge));
     }
     match values {
         [] => Ok(()),
         [first, rest @ ..] => {
-            show_one(heap, first, true, room - 1, printer)?;
-            show_more(heap, rest, room - 1, printer)
+            show_one(sight, first, true, room - 1, printer)?;
+            show_more(sight, rest, room - 1, printer)
         }
     }
 }
 
 /// Walks the items after the first, with `, ` before each.
 #[cycle(show)]
-fn show_more<H: Holder>(
-    heap: &H,
+fn show_more<S: Sighted>(
+    sight: &S,
     values: &[Value],
     room: u32,
     printer: &mut Printer,
-) -> Result<(), ShowRefusal>
-    ensures { Prints result (more_texts (text_of (seen_in (H.levels heap.now)) room true) values.now)
+) -> Result<(), Or<WalkEnd>>
+    ensures { Prints result (more_texts (text_of (whole (S.sight sight.now)) room true) values.now)
         printer.old printer.new }
 {
     'more: for value in values {
         printer.push(b", ")?;
-        show_one(heap, value, true, room, printer)?;
+        show_one(sight, value, true, room, printer)?;
     }
     Ok(())
 }
 
 impl Printer {
-    fn push(&mut self, text: &[u8]) -> Result<(), ShowRefusal>
+    fn push(&mut self, text: &[u8]) -> Result<(), Or<WalkEnd>>
+        requires { IsTrue (list_all (λ b. nat_lt b 128) text.now) }
         ensures { Prints result (answer text.now)
             self.old self.new }
     {
-        match self.bytes.extend_from_slice(text) {
+        match self.text.append_bytes(text) {
             Ok(()) => Ok(()),
-            Err(_) => Err(ShowRefusal::Memory),
+            Err(_) => Err(Or::Memory),
         }
     }
 
+    fn push_number(&mut self, number: i64) -> Result<(), Or<WalkEnd>>
+        ensures { Prints result (answer (signed_decimal number))
+            self.old self.new }
+    {
+        let mut buffer = Buffer::new();
+        self.push(buffer.format(number).as_bytes())
+    }
+
     /// A text, in quotes where it stands inside a list or a tuple.
-    fn push_text(&mut self, text: &[u8], inside: bool) -> Result<(), ShowRefusal>
+    fn push_text(&mut self, text: &Text, inside: bool) -> Result<(), Or<WalkEnd>>
         ensures { Prints result (answer (if inside then quoted text.now else text.now))
             self.old self.new }
     {
-        if inside {
-            match push_quoted(&mut self.bytes, text) {
-                Ok(()) => Ok(()),
-                Err(_) => Err(ShowRefusal::Memory),
-            }
+        let pushed = if inside {
+            push_quoted(&mut self.text, text)
         } else {
-            self.push(text)
+            self.text.append(text)
+        };
+        match pushed {
+            Ok(()) => Ok(()),
+            Err(_) => Err(Or::Memory),
         }
     }
 }

@@ -34,6 +34,13 @@ fn sums_and_products_wrap(rt: HostRuntime) {
 }
 
 #[test]
+fn signs_turn(rt: HostRuntime) {
+    for (a, negated) in [(5, -5), (0, 0), (i64::MIN, i64::MIN), (i64::MAX, -i64::MAX)] {
+        assert_eq!(rt; wrap_neg(a), negated);
+    }
+}
+
+#[test]
 fn powers_wrap(rt: HostRuntime) {
     for (a, b, power) in [
         (0, 0, Some(1)),
@@ -321,7 +328,8 @@ fn texts_grow_and_compare(rt: HostRuntime) -> Result<(), Fail> {
     assert_eq!(rt; word.compare(&other), Ordering::Less);
     assert!(rt; !word.equals(&other));
     word.append(&other)?;
-    assert_eq!(rt; word.as_bytes(), b"ababc".as_slice());
+    word.append_bytes(b"!")?;
+    assert_eq!(rt; word.as_bytes(), b"ababc!".as_slice());
     assert!(rt; word.try_clone(alloc)?.equals(&word));
     Ok(())
 }
@@ -331,5 +339,58 @@ fn texts_are_ascii(rt: HostRuntime) -> Result<(), Fail> {
     let alloc = rt.alloc();
     assert!(rt; Text::from_bytes(Vec::from_slice(alloc, b"\x80")?).is_err());
     assert!(rt; Text::from_bytes(Vec::from_slice(alloc, b"\x7f")?).is_ok());
+    Ok(())
+}
+
+#[test]
+fn texts_are_sliced(rt: HostRuntime) -> Result<(), Fail> {
+    let alloc = rt.alloc();
+    let word = text(alloc, b"abcde")?;
+    for (from, to, part) in [
+        (1, 3, b"bc".as_slice()),
+        (0, 5, b"abcde"),
+        (3, 9, b"de"),
+        (4, 2, b""),
+        (7, 9, b""),
+    ] {
+        assert_eq!(rt; word.slice(alloc, from, to)?.as_bytes(), part);
+    }
+    Ok(())
+}
+
+#[test]
+fn faults_and_endings_are_cloned(rt: HostRuntime) -> Result<(), Fail> {
+    let alloc = rt.alloc();
+    let fault = Fault {
+        kind: FaultKind::Index,
+        text: text(alloc, b"index out of range")?,
+    };
+    let Ending::Fault(copy) = Ending::Fault(fault.try_clone(alloc)?).try_clone(alloc)? else {
+        return Err("no fault".into());
+    };
+    assert_eq!(rt; copy.kind, FaultKind::Index);
+    assert!(rt; copy.text.equals(&fault.text));
+    assert!(rt; matches!(&Ending::OutOfFuel.try_clone(alloc)?, Ending::OutOfFuel));
+    Ok(())
+}
+
+#[test]
+fn objects_change_in_place(rt: HostRuntime) -> Result<(), Fail> {
+    let alloc = rt.alloc();
+    let mut heap = Heap::new(alloc)?;
+    let below = list(&mut heap, one(alloc, Value::Int(1))?)?;
+    let _ = list(&mut heap, Items::new(alloc))?;
+    heap.enter(alloc)?;
+    match heap.object_mut(Ref { level: 0, place: 0 }) {
+        Some(Object::List(values)) => values.push(Value::Int(2))?,
+        _ => return Err("no list".into()),
+    }
+    assert!(rt; heap.object_mut(Ref { level: 0, place: 2 }).is_none());
+    assert!(rt; heap.object_mut(Ref { level: 2, place: 0 }).is_none());
+    let place = Unlent { heap: &heap };
+    let shown = show_whole(alloc, &place, &below, false)?;
+    assert_eq!(rt; shown.as_bytes(), b"[1, 2]".as_slice());
+    let bytes = shown.into_bytes();
+    assert_eq!(rt; bytes.as_slice(), b"[1, 2]".as_slice());
     Ok(())
 }

@@ -1,7 +1,8 @@
 use Rattle.std.proofs.Common.{ℕ, ◌+◌, ◌*◌, List, Result, drop, true}
-use Rattle.codon_base.specs.declared.show.ShowRefusal.{ShowRefusal}
+use Rattle.codon_base.specs.declared.memory.Or.{Or}
+use Rattle.codon_base.specs.declared.walk.WalkEnd.{WalkEnd}
 use Rattle.codon_base.specs.Printed.{text_of, more_texts}
-use Rattle.codon_base.specs.Walks.{seen_in}
+use Rattle.codon_base.specs.Operators.{whole}
 use Rattle.codon_base.specs.ShowAnswers.{Writes}
 use Rattle.codon_base.proofs.show.+show.Given as goal
 
@@ -29,6 +30,6 @@ decreases-show_more g l = 6 * l.room + 6
 -- what follows from here follows from the start
 abbrev pub invariant-show_more-more : goal.invariant-show_more-more
 invariant-show_more-more g l =
-    (r : Result (Unit {0}) ShowRefusal) (new : List ℕ) (met : ℕ) →
-    Writes r (more_texts (text_of (seen_in (g.H.Holder.levels l.heap)) l.room true) (drop l.value-index l.values) l.printer.met) l.printer.bytes.items new met →
-    Writes r (more_texts (text_of (seen_in (g.H.Holder.levels l.heap)) l.room true) l.values l.initial.printer.met) l.initial.printer.bytes.items new met
+    (r : Result (Unit {0}) (Or WalkEnd)) (new : List ℕ) (met : ℕ) →
+    Writes r (more_texts (text_of (whole (g.S.Sighted.sight l.sight)) l.room true) (drop l.value-index l.values) l.printer.met) l.printer.text new met →
+    Writes r (more_texts (text_of (whole (g.S.Sighted.sight l.sight)) l.room true) l.values l.initial.printer.met) l.initial.printer.text new met

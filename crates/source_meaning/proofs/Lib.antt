@@ -1,0 +1,22 @@
+mod Closed
+mod ClosedObjects
+mod ClosedLoops
+mod ClosedExpressions
+mod ClosedPipelines
+mod ClosedStatements
+mod ClosedRuns
+mod Fuel
+pub mod LawsHold
+pub mod Waiting
+pub mod BodyEquations
+pub mod NoteEquations
+pub mod ThreeNotes
+pub mod Held
+pub mod Rest
+pub mod Left
+pub mod Sets
+pub mod Results
+pub mod Private
+mod Steady
+pub mod Iterating
+pub mod GivenValues

@@ -1,0 +1,3 @@
+pub mod Equations
+pub mod Highest
+pub mod HeightForms

@@ -1,0 +1,11 @@
+use Rattle.std.proofs.Common.{refl, sym, ap, ◌∙◌}
+use Rattle.codon_base.specs.declared.value.Value.TheVariants as value
+use Rattle.codon_base.specs.Operators.{made}
+use Rattle.value_operators.proofs.Repeating.{Makes-along, repeated-over, repeated-within}
+use Rattle.value_operators.proofs.repeat.repeated_text.Goals as goal
+
+pub returns-then-not-fits : goal.returns-then-not-fits
+returns-then-not-fits c = Makes-along c.size_fault.result _ _ (repeated-over c.args.count c.len.result c.args.text.now _ _ c.len.ensures c.if-not-fits.ensures) c.size_fault.ensures
+
+pub returns : goal.returns
+returns c = ap (λ t. made (value.Text t)) c.in_ok-made.ensures ∙ sym (repeated-within c.args.count c.len.result c.args.text.now _ _ c.len.ensures c.if-not-fits.ensures)
