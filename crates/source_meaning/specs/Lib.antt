@@ -16,3 +16,7 @@ pub mod Printing
 pub mod Pipelines
 pub mod Statements
 pub mod Meaning
+pub mod Scopes
+pub mod Seen
+pub mod Tasks
+pub mod Lists
