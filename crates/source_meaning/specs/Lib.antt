@@ -20,3 +20,7 @@ pub mod Scopes
 pub mod Seen
 pub mod Tasks
 pub mod Lists
+pub mod Callees
+pub mod Collected
+pub mod Flows
+pub mod Frames
