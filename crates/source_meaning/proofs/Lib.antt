@@ -3,3 +3,6 @@ pub mod Held
 pub mod Rest
 pub mod Left
 pub mod Parts
+pub mod Sets
+pub mod StatementEquations
+pub mod Turns

@@ -24,3 +24,6 @@ pub mod Callees
 pub mod Collected
 pub mod Flows
 pub mod Frames
+pub mod Cursors
+pub mod Steps
+pub mod Targets

@@ -30,6 +30,20 @@ impl Names {
         }
     }
 
+    /// The same names with equal values.
+    #[tactic(auto, unfolding(crate::specs::Seen::names_of))]
+    pub(crate) fn try_clone(&self, alloc: Global) -> Result<Names, Memory>
+        ensures { IfOk result (λ names. names_of names ≡ names_of self.now) }
+    {
+        let mut entries = Vec::new(alloc);
+        'entries: for entry in &self.entries {
+            let name = Spelling::from_slice(alloc, entry.name.as_slice())?;
+            let value = entry.value.try_clone(alloc)?;
+            entries.push(Entry { name, value })?;
+        }
+        Ok(Names { entries })
+    }
+
     /// What a name holds, which is nothing where it was not assigned.
     pub(crate) fn get(&self, alloc: Global, name: &Spelling) -> Result<Value, Memory>
         ensures { IfOk result (λ v. v ≡ names_of self.now name.now) }
