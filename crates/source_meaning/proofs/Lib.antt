@@ -6,3 +6,9 @@ pub mod Parts
 pub mod Sets
 pub mod StatementEquations
 pub mod Turns
+pub mod Blocks
+pub mod Over
+pub mod Arguments
+pub mod Methods
+pub mod Results
+pub mod Assigns

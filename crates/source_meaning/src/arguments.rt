@@ -1,4 +1,4 @@
-ghost use Rattle.std.specs.Prelude.{◌≡◌, IfOk};
+ghost use Rattle.std.specs.Prelude.{◌≡◌, ◌≤◌, length, drop, IfOk};
 ghost use Rattle.source_trees.specs.declared.expression.Expr.{out-Expr};
 ghost use Rattle.source_meaning.specs.Calls as spec;
 ghost use Rattle.source_meaning.specs.Seen.{names_of};
@@ -41,6 +41,14 @@ fn default_of(alloc: Global, param: &Param) -> Result<Option<Value>, Memory>
     }
 }
 
+/// The parameters after that many.
+fn after(params: &[Param], count: usize) -> &[Param]
+    requires { count ≤ length params.now }
+    ensures { result.now ≡ drop count params.now }
+{
+    &params[count..]
+}
+
 /// The values of the parameters: those that are given, and then defaults. There are none where too many are given, or a value is missing.
 pub(crate) fn arguments(alloc: Global, params: &[Param], given: Values) -> Result<Option<Values>, Memory>
     ensures { IfOk result (λ all. all ≡ spec.arguments params.now given) }
@@ -48,9 +56,9 @@ pub(crate) fn arguments(alloc: Global, params: &[Param], given: Values) -> Resul
     if given.len() > params.len() {
         return Ok(None);
     }
+    let rest = after(params, given.len());
     let mut all = given;
-    let begin = all.len();
-    'params: for param in &params[begin..] {
+    'params: for param in rest {
         match default_of(alloc, param)? {
             Some(v) => all.push(v)?,
             None => return Ok(None),

@@ -5,7 +5,7 @@ ghost use Rattle.codon_base.specs.declared.value.Value.TheVariants as value;
 ghost use Rattle.source_meaning.specs.Calls as spec;
 ghost use Rattle.source_meaning.specs.Program.{function_scope};
 ghost use Rattle.source_meaning.specs.Scopes.{scope_of};
-ghost use Rattle.source_meaning.specs.Seen.{seen, flow_of, Tells, TellsAt};
+ghost use Rattle.source_meaning.specs.Seen.{seen, flow_of, ended_by, Tells, TellsAt};
 ghost use Rattle.source_meaning.specs.Tasks.{Nests, here, known_of};
 
 use crate::arguments::{arguments, parameters};
@@ -27,9 +27,17 @@ use std::alloc::Global;
 fn result_of(alloc: Global, known: &Known<'_>, flow: Flow) -> Result<Value, Stop>
     ensures { (s : _) → TellsAt (spec.result known.now.function.now (flow_of flow) s) result s }
 {
-    match flow.end {
+    result_at(alloc, known, flow.end)
+}
+
+/// The same by how the body ended, whatever it left.
+#[tactic(auto, unfolding(crate::specs::Outcome::pure, crate::specs::Outcome::stop))]
+fn result_at(alloc: Global, known: &Known<'_>, end: End) -> Result<Value, Stop>
+    ensures { (s : _) → TellsAt (spec.result known.now.function.now (ended_by end) s) result s }
+{
+    match end {
         End::Return(v) => Ok(v),
-        _ => {
+        End::Next | End::Break | End::Continue => {
             if known.gives_value {
                 Err(fault(alloc, FaultKind::Runtime, b"no value returned"))
             } else {

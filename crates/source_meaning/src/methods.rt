@@ -1,13 +1,15 @@
-#![tactic(auto, unfolding(crate::specs::Outcome::bind, crate::specs::Outcome::pure, crate::specs::Outcome::stop, crate::specs::Outcome::look, crate::specs::Seen::seen))]
+#![tactic(auto, unfolding(crate::specs::Outcome::bind, crate::specs::Outcome::pure, crate::specs::Outcome::stop), using(crate::proofs::Methods::method_rules))]
 
 ghost use Rattle.std.specs.Prelude.{[]};
 ghost use Rattle.source_meaning.specs.Calls as calls;
 ghost use Rattle.source_meaning.specs.Expressions as spec;
 ghost use Rattle.source_meaning.specs.Meaning.{turn_of};
-ghost use Rattle.source_meaning.specs.Seen.{seen, Tells, TellsBy, TellsAt, TellsFlow};
+ghost use Rattle.codon_base.specs.Levels.{object_at};
+ghost use Rattle.source_meaning.specs.Kinds.{kind_of, found_method};
+ghost use Rattle.source_meaning.specs.Seen.{seen, Tells, TellsBy, TellsAtBy, TellsFlow};
 ghost use Rattle.source_meaning.specs.Steps.{iterable_of, looped, turns_from};
 ghost use Rattle.source_meaning.specs.Task.{Gathered};
-ghost use Rattle.source_meaning.specs.Tasks.{Nests, here, known_of};
+ghost use Rattle.source_meaning.specs.Tasks.{Nests, here, known_of, program_of};
 
 use crate::callee::function_named;
 use crate::calls::with_first;
@@ -32,7 +34,10 @@ enum Kind {
     Nothing,
 }
 
-fn kind_at(state: &State, at: Ref) -> Kind {
+#[tactic(auto, unfolding(crate::specs::Seen::seen))]
+fn kind_at(state: &State, at: Ref) -> Kind
+    ensures { result ≡ kind_of (object_at (seen state.now).shared.levels at) }
+{
     match state.store.heap.get(at) {
         Some(Object::List(_)) => Kind::List,
         Some(Object::Instance { class, .. }) => Kind::Instance(*class),
@@ -42,7 +47,9 @@ fn kind_at(state: &State, at: Ref) -> Kind {
 
 impl<'m, F: Fn(Global, &Prepared<'_>, u64, u32, &mut State, &[Consumer<'_>], Task<'_>) -> Result<Flow, Stop>> Runner<'m, F> {
     /// The method of an instance of that class.
-    fn method_in(&self, class: u32, name: &Spelling) -> Result<Called<'m>, Stop> {
+    fn method_in(&self, class: u32, name: &Spelling) -> Result<Called<'m>, Stop>
+        ensures { (s : _) → TellsAtBy known_of (found_method (program_of self.now.program.now) class name.now s) result s }
+    {
         let Some(c) = self.program.classes.get(class as usize) else {
             return Err(wrong(self.alloc));
         };
