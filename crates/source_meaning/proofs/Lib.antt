@@ -1,2 +1,4 @@
 mod Closed
 mod ClosedObjects
+mod ClosedLoops
+mod ClosedExpressions
