@@ -2,3 +2,5 @@ mod Closed
 mod ClosedObjects
 mod ClosedLoops
 mod ClosedExpressions
+mod ClosedPipelines
+mod ClosedStatements
