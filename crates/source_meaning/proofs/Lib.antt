@@ -4,3 +4,5 @@ mod ClosedLoops
 mod ClosedExpressions
 mod ClosedPipelines
 mod ClosedStatements
+mod ClosedRuns
+mod Fuel

@@ -16,3 +16,4 @@ pub mod Printing
 pub mod Pipelines
 pub mod Statements
 pub mod Meaning
+pub mod Laws
