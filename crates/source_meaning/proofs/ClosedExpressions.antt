@@ -1,21 +1,19 @@
 -- Expressions under a closed relation. An expression holds no loop round it, so the relation of its runs is that of a text in no loop over a generator.
-use Rattle.std.proofs.Common.{◌≡◌, ℕ, zero, suc, Bool, true, false, not, if◌then◌else◌, List, [], ◌∷◌, length, map, Option, Some, None, option_map, sym, ap, subst, ◌∙◌, pos}
-use Rattle.codon_base.specs.declared.value.Value.{Value, Value-F, out-Value}
-use Rattle.codon_base.specs.declared.value.Value.TheVariants as value
+use Rattle.std.proofs.Common.{◌≡◌, ℕ, Bool, List, [], ◌∷◌, map, Option, Some, None, option_map, sym, subst}
+use Rattle.codon_base.specs.declared.value.Value.{Value, out-Value}
 use Rattle.codon_base.specs.declared.value.Ref.{Ref}
 use Rattle.codon_base.specs.declared.object.Object.{Object}
 use Rattle.codon_base.specs.declared.object.Object.TheVariants.{List as Listed, Instance}
-use Rattle.source_trees.specs.declared.node.Node.{Node}
 use Rattle.source_trees.specs.declared.expression.Expr.{Expr, Expr-F, roll-Expr, ind-Expr}
 use Rattle.source_trees.specs.declared.expression.Expr.TheOpen.{Comparison-F}
-use Rattle.source_trees.specs.declared.expression.Expr.TheFolds.{para-Expr, para-Comparison, para-roll-Expr, para-roll-Comparison, map-Expr, map-Comparison}
+use Rattle.source_trees.specs.declared.expression.Expr.TheFolds.{para-Comparison, para-roll-Expr, para-roll-Comparison, map-Expr, map-Comparison}
 use Rattle.source_trees.specs.declared.expression.Comparison.{Comparison, roll-Comparison}
 use Rattle.source_trees.specs.declared.statement.LoopNames.{LoopNames}
 use Rattle.source_meaning.specs.State.{Spelling, Flow}
 use Rattle.source_meaning.specs.Outcome.{Run, ◌>>=◌}
 use Rattle.source_meaning.specs.Bodies.{yields, loop_names}
 use Rattle.source_meaning.specs.Program.{Program, Scope, Builtin, Length, Least, Greatest, ToText, ToInt, ToBool, Code, Character, ToList, Range, Known, Callee, Defined, Constructor, Standard, Variable, Unknown, callee, with_locals}
-use Rattle.source_meaning.specs.Task.{Consumer, Comprehension, Gathered, Task, Rules, Setting}
+use Rattle.source_meaning.specs.Task.{Consumer, Task, Rules, Setting}
 use Rattle.source_meaning.specs.Objects.{slice}
 use Rattle.source_meaning.specs.Loops.{Iterable, Items, Generated}
 use Rattle.source_meaning.specs.Operations.{unary_made, compared_made}
@@ -118,10 +116,10 @@ module _ (program : Program) {R : Relation} {rules : Rules} {limit more : ℕ} {
   link k = k.0
 
   abbrev under : Setting → Expr → Expr × Means
-  under setting e = (e , spec.meant setting e)
+  under setting e = (e, spec.meant setting e)
 
   abbrev link_under : Setting → Comparison → Comparison × Compares
-  link_under setting k = (k , compares setting k)
+  link_under setting k = (k, compares setting k)
 
   abbrev parts_under : Setting → List Part → List (Expr × Means)
   parts_under setting parts = map (under setting) (map tree parts)
@@ -288,7 +286,7 @@ module _ (program : Program) {R : Relation} {rules : Rules} {limit more : ℕ} {
   meant_form setting d = para-roll-Expr Means Compares (spec.expr_step setting) (spec.comparison_step setting) d
 
   form_closed : (y : Expr-F Part Link) → P (roll-Expr (map-Expr Part Link Expr Comparison tree link y))
-  form_closed y = alike _ _ _ _ (meant_form less _) (meant_form greater _) (λ scope. (value_of_closed scope y , iterable_of_closed scope y))
+  form_closed y = alike _ _ _ _ (meant_form less _) (meant_form greater _) (λ scope. (value_of_closed scope y, iterable_of_closed scope y))
 
   comparison_form : (setting : Setting) (d : Comparison-F Expr Comparison) → compares setting (roll-Comparison d) ≡ spec.comparison_step setting (map-Comparison Expr Comparison (Expr × Means) (Comparison × Compares) (under setting) (link_under setting) d)
   unfolding spec.meant

@@ -1,14 +1,14 @@
 -- Calls, loops, generators and the beginnings of regions under a closed relation.
-use Rattle.std.proofs.Common.{◌≡◌, ℕ, zero, suc, ◌≤◌, ◌==◌, Bool, true, false, if◌then◌else◌, List, [], ◌∷◌, length, slice_get, map, Option, Some, None, ℤ, pos, negsuc, ◌+ℤ◌, arith}
-use Rattle.codon_base.specs.declared.value.Value.{Value, Value-F, out-Value}
+use Rattle.std.proofs.Common.{ℕ, zero, suc, ◌≤◌, ◌==◌, Bool, false, if◌then◌else◌, List, [], ◌∷◌, length, slice_get, Option, Some, None, ℤ, pos, negsuc, ◌+ℤ◌, arith}
+use Rattle.codon_base.specs.declared.value.Value.{Value}
 use Rattle.codon_base.specs.declared.value.Value.TheVariants as value
 use Rattle.codon_base.specs.declared.object.Object.TheVariants.{Instance}
 use Rattle.source_trees.specs.declared.item.Function.{Function}
 use Rattle.source_trees.specs.declared.item.Class.{Class}
 use Rattle.source_trees.specs.declared.statement.LoopNames.{LoopNames}
 use Rattle.source_trees.specs.declared.statement.Stmt.{Stmt}
-use Rattle.source_meaning.specs.State.{Spelling, Flow, Next, Break, Continue, Return, Left, OutOfFuel}
-use Rattle.source_meaning.specs.Outcome.{Run, pure, stop}
+use Rattle.source_meaning.specs.State.{Spelling, Flow, Next, Break, Continue, Return, Left}
+use Rattle.source_meaning.specs.Outcome.{Run, stop}
 use Rattle.source_meaning.specs.Bodies.{yields, gives_value}
 use Rattle.source_meaning.specs.Mentions.{Note, notes_of_body, written_places}
 use Rattle.source_meaning.specs.Program.{Program, Scope, Known, fields_of, methods_of, function_named, initializer_name}
@@ -99,7 +99,7 @@ module _ (program : Program) {R : Relation} {rules : Rules} {limit more : ℕ} {
   while_next_closed e u = chain c e (λ t. pick c t (ticked_closed _) (gives c None))
 
   number_next_closed : {n : ℕ} (step stop at : ℤ) → R n (Option (Value × ℤ)) (loops.number_next limit step stop at) (loops.number_next more step stop at)
-  number_next_closed step stop at = pick c (loops.is_before step stop at) (ticked_closed (value.Int at , at +ℤ step)) (gives c None)
+  number_next_closed step stop at = pick c (loops.is_before step stop at) (ticked_closed (value.Int at, at +ℤ step)) (gives c None)
 
   item_found_closed : {n : ℕ} (place : ℕ) (o : Option Value) → R n (Option (Value × ℕ)) (loops.item_found limit place o) (loops.item_found more place o)
   item_found_closed place None = gives c _

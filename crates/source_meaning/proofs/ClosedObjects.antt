@@ -1,5 +1,5 @@
 -- Steps on objects, variables and operators are the same in both runs, so a closed relation holds of them.
-use Rattle.std.proofs.Common.{ℕ, zero, suc, Bool, true, false, if◌then◌else◌, nat_lt, nat_le, List, [], ◌∷◌, ◌++◌, length, slice_get, slice_set, take, Option, Some, None, ℤ, pos, negsuc, ◌==◌}
+use Rattle.std.proofs.Common.{ℕ, Bool, nat_lt, nat_le, List, [], ◌∷◌, length, Option, Some, None, ℤ, pos, ◌==◌}
 use Rattle.std.specs.Prelude.{codes}
 use Rattle.codon_base.specs.declared.fault.Fault.{Fault}
 use Rattle.codon_base.specs.declared.value.Ref.{Ref}
@@ -7,7 +7,6 @@ use Rattle.codon_base.specs.declared.value.Value.{Value, Value-F, out-Value}
 use Rattle.codon_base.specs.declared.value.Value.TheVariants as value
 use Rattle.codon_base.specs.declared.object.Object.{Object}
 use Rattle.codon_base.specs.declared.object.Object.TheVariants.{List as Listed, Instance}
-use Rattle.codon_base.specs.Sequences.{place_of}
 use Rattle.codon_base.specs.Operators.{Made, made, new_list, fault as faulted, Sight, size_limit}
 use Rattle.source_trees.specs.declared.statement.LoopNames.{LoopNames}
 use Rattle.source_trees.specs.declared.statement.LoopNames.TheVariants as names

@@ -1,7 +1,6 @@
 -- Printing and pipelines under a closed relation.
-use Rattle.std.proofs.Common.{ℕ, List, [], ◌∷◌, ◌++◌, length, if◌then◌else◌, Option, Some, None}
-use Rattle.codon_base.specs.declared.value.Value.{Value, out-Value}
-use Rattle.codon_base.specs.declared.value.Value.TheVariants as value
+use Rattle.std.proofs.Common.{ℕ, List, [], ◌∷◌, ◌++◌, length, Option, Some, None}
+use Rattle.codon_base.specs.declared.value.Value.{Value}
 use Rattle.source_trees.specs.declared.expression.Expr.{Expr}
 use Rattle.source_trees.specs.declared.pipeline.PrintOptions.{PrintOptions}
 use Rattle.source_trees.specs.declared.pipeline.PrintOptions.TheVariants as options

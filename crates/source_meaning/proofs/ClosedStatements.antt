@@ -1,12 +1,11 @@
 -- Statements and tasks under a closed relation.
-use Rattle.std.proofs.Common.{◌≡◌, ℕ, Bool, true, false, if◌then◌else◌, List, [], ◌∷◌, length, map, Option, Some, None, refl, sym, ap, subst}
+use Rattle.std.proofs.Common.{◌≡◌, ℕ, true, List, [], ◌∷◌, length, map, Option, Some, None, refl, sym, ap, subst}
 use Rattle.codon_base.specs.declared.fault.FaultKind.{FaultKind}
 use Rattle.codon_base.specs.declared.fault.FaultKind.TheVariants as kind
 use Rattle.codon_base.specs.declared.value.Value.{Value, Value-F, out-Value}
 use Rattle.source_trees.specs.declared.expression.Expr.{Expr, out-Expr}
 use Rattle.source_trees.specs.declared.operator.BinaryOp.{BinaryOp}
 use Rattle.source_trees.specs.declared.operator.BinaryOp.TheVariants as op
-use Rattle.source_trees.specs.declared.node.Node.{Node}
 use Rattle.source_trees.specs.declared.node.Name.{Name}
 use Rattle.source_trees.specs.declared.statement.LoopNames.{LoopNames}
 use Rattle.source_trees.specs.declared.statement.Target.{Target}
@@ -15,10 +14,10 @@ use Rattle.source_trees.specs.declared.statement.Targets.{Targets}
 use Rattle.source_trees.specs.declared.statement.Targets.TheVariants as targets
 use Rattle.source_trees.specs.declared.statement.Stmt.{Stmt, Stmt-F, roll-Stmt, ind-Stmt}
 use Rattle.source_trees.specs.declared.statement.Stmt.TheOpen.{Arm-F, For-F}
-use Rattle.source_trees.specs.declared.statement.Stmt.TheFolds.{para-Stmt, para-Arm, para-For, para-roll-Stmt, para-roll-Arm, para-roll-For, map-Stmt, map-Arm, map-For}
+use Rattle.source_trees.specs.declared.statement.Stmt.TheFolds.{para-Arm, para-For, para-roll-Stmt, para-roll-Arm, para-roll-For, map-Stmt, map-Arm, map-For}
 use Rattle.source_trees.specs.declared.statement.Arm.{Arm, roll-Arm}
 use Rattle.source_trees.specs.declared.statement.For.{For, roll-For}
-use Rattle.source_meaning.specs.State.{Spelling, Flow, Next, Break, Continue, Return, Left}
+use Rattle.source_meaning.specs.State.{Flow, Next, Break, Continue, Return, Left}
 use Rattle.source_meaning.specs.Outcome.{Run, ◌>>=◌, pure}
 use Rattle.source_meaning.specs.Program.{Program, Scope}
 use Rattle.source_meaning.specs.Task.{Region, Consumer, Body, Parallel, Gathered, Comprehension, Stages, Task, Enter, Turn, Rules, Setting}
@@ -115,7 +114,7 @@ module _ (program : Program) {R : Relation} {rules : Rules} {limit more : ℕ} {
     tree p = p.0
 
     abbrev under : Setting → Stmt → Stmt × Does
-    under setting s = (s , spec.stmt setting consumers s)
+    under setting s = (s, spec.stmt setting consumers s)
 
     abbrev parts_under : Setting → List Part → List (Stmt × Does)
     parts_under setting parts = map (under setting) (map tree parts)
@@ -143,7 +142,7 @@ module _ (program : Program) {R : Relation} {rules : Rules} {limit more : ℕ} {
     arm_tree p = p.0
 
     abbrev arm_under : Setting → Arm → Arm × Chooses
-    arm_under setting arm = (arm , chooses setting arm)
+    arm_under setting arm = (arm, chooses setting arm)
 
     arms_or_closed : (scope : Scope) (arms : List ArmPart) (p q : Run Flow) → R (length consumers) Flow p q → R (length consumers) Flow (spec.arms_or less consumers scope (map (arm_under less) (map arm_tree arms)) p) (spec.arms_or greater consumers scope (map (arm_under greater) (map arm_tree arms)) q)
     arms_or_closed scope [] p q e = e
@@ -175,7 +174,7 @@ module _ (program : Program) {R : Relation} {rules : Rules} {limit more : ℕ} {
     loop_tree p = p.0
 
     abbrev loop_pair : Setting → For → For × Loop
-    loop_pair setting l = (l , loops setting l)
+    loop_pair setting l = (l, loops setting l)
 
     body_turn_closed : {n : ℕ} (scope : Scope) (names : LoopNames) (p q : Run Flow) → R n Flow p q → (v : Value) → R n Flow (spec.body_turn less consumers scope names p v) (spec.body_turn greater consumers scope names q v)
     body_turn_closed scope names p q e v = chain c (set_loop_names_closed c scope names v) (λ _. e)
@@ -208,27 +207,27 @@ module _ (program : Program) {R : Relation} {rules : Rules} {limit more : ℕ} {
     for_parts_closed scope names goes parts =
         let p = spec.block less consumers scope (parts_under less parts) in let q = spec.block greater consumers scope (parts_under greater parts) in
         subst (λ ts. R (length consumers) Flow (for_with less scope names goes ts p) (for_with greater scope names goes (spec.trees (parts_under greater parts)) q)) (sym (trees_are less parts))
-          (subst (λ ts. R (length consumers) Flow (for_with less scope names goes (map tree parts) p) (for_with greater scope names goes ts q)) (sym (trees_are greater parts))
-            (for_with_closed scope names goes (map tree parts) p q (block_closed scope parts)))
+        (subst (λ ts. R (length consumers) Flow (for_with less scope names goes (map tree parts) p) (for_with greater scope names goes ts q)) (sym (trees_are greater parts))
+        (for_with_closed scope names goes (map tree parts) p q (block_closed scope parts)))
 
     for_loop_closed : (scope : Scope) (l m : Loop) → Alike l m → R (length consumers) Flow (spec.for_loop less consumers scope l) (spec.for_loop greater consumers scope m)
     for_loop_closed scope l m a =
         subst (λ x. R (length consumers) Flow (spec.for_loop less consumers scope x) (spec.for_loop greater consumers scope m)) (sym a.left)
-          (subst (λ x. R (length consumers) Flow (spec.for_loop less consumers scope (loop_under less a.names a.iterable a.parts)) (spec.for_loop greater consumers scope x)) (sym a.right)
-            (for_parts_closed scope a.names a.iterable a.parts))
+        (subst (λ x. R (length consumers) Flow (spec.for_loop less consumers scope (loop_under less a.names a.iterable a.parts)) (spec.for_loop greater consumers scope x)) (sym a.right)
+        (for_parts_closed scope a.names a.iterable a.parts))
 
     parallel_parts_closed : (scope : Scope) (names : LoopNames) (goes : Expr) (parts : List Part) → R (length consumers) Flow (spec.parallel_loop less consumers scope (loop_under less names goes parts)) (spec.parallel_loop greater consumers scope (loop_under greater names goes parts))
     parallel_parts_closed scope names goes parts =
         let p : Scope → Run Flow = λ inner. spec.block less consumers inner (parts_under less parts) in let q : Scope → Run Flow = λ inner. spec.block greater consumers inner (parts_under greater parts) in
         subst (λ ts. R (length consumers) Flow (parallel_with less scope names goes ts p) (parallel_with greater scope names goes (spec.trees (parts_under greater parts)) q)) (sym (trees_are less parts))
-          (subst (λ ts. R (length consumers) Flow (parallel_with less scope names goes (map tree parts) p) (parallel_with greater scope names goes ts q)) (sym (trees_are greater parts))
-            (parallel_with_closed scope names goes (map tree parts) p q (λ inner. block_closed inner parts)))
+        (subst (λ ts. R (length consumers) Flow (parallel_with less scope names goes (map tree parts) p) (parallel_with greater scope names goes ts q)) (sym (trees_are greater parts))
+        (parallel_with_closed scope names goes (map tree parts) p q (λ inner. block_closed inner parts)))
 
     parallel_loop_closed : (scope : Scope) (l m : Loop) → Alike l m → R (length consumers) Flow (spec.parallel_loop less consumers scope l) (spec.parallel_loop greater consumers scope m)
     parallel_loop_closed scope l m a =
         subst (λ x. R (length consumers) Flow (spec.parallel_loop less consumers scope x) (spec.parallel_loop greater consumers scope m)) (sym a.left)
-          (subst (λ x. R (length consumers) Flow (spec.parallel_loop less consumers scope (loop_under less a.names a.iterable a.parts)) (spec.parallel_loop greater consumers scope x)) (sym a.right)
-            (parallel_parts_closed scope a.names a.iterable a.parts))
+        (subst (λ x. R (length consumers) Flow (spec.parallel_loop less consumers scope (loop_under less a.names a.iterable a.parts)) (spec.parallel_loop greater consumers scope x)) (sym a.right)
+        (parallel_parts_closed scope a.names a.iterable a.parts))
 
     -- ---- forms
 

@@ -1,13 +1,11 @@
 -- More fuel, and deeper calls, change no run that ends, and a run that is cut off has printed the beginning of what it prints on more.
 -- The relation says both of two runs from one state, and that the longer one prints on from there; the last is what lets a run that is cut off be followed by anything.
-use Rattle.std.proofs.Common.{◌≡◌, ◌≢◌, ℕ, zero, suc, ◌+◌, ◌-◌, ◌≤◌, Bool, true, false, if◌then◌else◌, nat_lt, ◌&&◌, List, [], ◌∷◌, ◌++◌, length, take, refl, sym, ap, subst, ◌∙◌, arith}
+use Rattle.std.proofs.Common.{◌≡◌, ℕ, suc, ◌-◌, ◌≤◌, Bool, true, false, if◌then◌else◌, nat_lt, ◌&&◌, List, [], ◌∷◌, ◌++◌, length, refl, sym, ap, subst, ◌∙◌, arith}
 use Rattle.std.proofs.lemmas.Bool.Decides.{nat_tests}
 use Rattle.std.proofs.lemmas.List.{append-nil, append_assoc}
-use Rattle.codon_base.specs.declared.fault.Fault.{Fault}
 use Rattle.codon_base.specs.declared.object.Object.{Object}
 use Rattle.codon_base.specs.declared.value.Value.{Value}
-use Rattle.source_trees.specs.declared.item.Module.{Module}
-use Rattle.source_meaning.specs.State.{Spelling, Names, unset_names, with_names_of, Iteration, Shared, State, Stop, Faulted, OutOfFuel, TooDeep, Flow}
+use Rattle.source_meaning.specs.State.{Spelling, Names, Iteration, Shared, State, Stop, Faulted, OutOfFuel, TooDeep, Flow}
 use Rattle.source_meaning.specs.Outcome.{Outcome, Gives, Stops, Run, and_then, bind, pure, stop, tick, by_fuel, look, change_names, change_globals, change_levels, write, framed, generating, woken, suspended, resumed, in_iteration, item_reached, is_next, is_outside, counted, counting}
 use Rattle.source_meaning.specs.Task.{Region, Consumer, Task}
 use Rattle.source_meaning.specs.Iterations.{in_place}
@@ -35,10 +33,10 @@ abbrev pub Begins : List ℕ → List ℕ → Type 0
 Begins xs ys = (rest : List ℕ) × (ys ≡ xs ++ rest)
 
 begins_itself : (xs : List ℕ) → Begins xs xs
-begins_itself xs = ([] , sym (append-nil xs))
+begins_itself xs = ([], sym (append-nil xs))
 
 begins_on : (xs ys zs : List ℕ) → Begins xs ys → Begins ys zs → Begins xs zs
-begins_on xs ys zs p q = (p.0 ++ q.0 , q.1 ∙ ap (λ l. l ++ q.0) p.1 ∙ append_assoc xs p.0 q.0)
+begins_on xs ys zs p q = (p.0 ++ q.0, q.1 ∙ ap (λ l. l ++ q.0) p.1 ∙ append_assoc xs p.0 q.0)
 
 -- what two runs came to from a state where this had been printed
 pub record Later (A : Type 0) (before : List ℕ) (x y : Outcome A) : Type 0 where
@@ -54,7 +52,7 @@ same_step : {A : Type 0} (before : List ℕ) (x : Outcome A) → Begins before (
 same_step before x g = record { stays = λ h. refl; grows = g; begins = begins_itself _ }
 
 quiet_step : {A : Type 0} (s : State) (a : A) (t : State) → t.shared.out ≡ s.shared.out → Later A s.shared.out (Gives a t) (Gives a t)
-quiet_step s a t e = same_step _ _ ([] , e ∙ sym (append-nil _))
+quiet_step s a t e = same_step _ _ ([], e ∙ sym (append-nil _))
 
 grown_then : {A B : Type 0} (y : Outcome A) (l : A → Run B) → ((a : A) (t : State) → Begins t.shared.out (out_of (l a t))) → Begins (out_of y) (out_of (and_then y l))
 grown_then (Gives a t) l e = e a t
@@ -62,10 +60,11 @@ grown_then (Stops why t) l e = begins_itself _
 
 later_then : {A B : Type 0} (before : List ℕ) (x y : Outcome A) (k l : A → Run B) → Later A before x y → ((a : A) (t : State) → Later B t.shared.out (k a t) (l a t)) → Later B before (and_then x k) (and_then y l)
 later_then before (Gives a t) y k l p q = subst (λ o. Later _ before (k a t) (and_then o l)) (sym (p.stays tt)) (record { stays = (q a t).stays; grows = begins_on _ _ _ (subst (λ o. Begins before (out_of o)) (p.stays tt) p.grows) (q a t).grows; begins = (q a t).begins })
-later_then before (Stops why t) y k l p q = record
-  { stays = λ h. ap (λ o. and_then o l) (p.stays h)
-  ; grows = begins_on _ _ _ p.grows (grown_then y l (λ a u. (q a u).grows))
-  ; begins = begins_on _ _ _ p.begins (grown_then y l (λ a u. (q a u).grows)) }
+later_then before (Stops why t) y k l p q = record {
+  stays = λ h. ap (λ o. and_then o l) (p.stays h);
+  grows = begins_on _ _ _ p.grows (grown_then y l (λ a u. (q a u).grows));
+  begins = begins_on _ _ _ p.begins (grown_then y l (λ a u. (q a u).grows));
+}
 
 -- what comes after a run and prints nothing
 later_then_quiet : {A B : Type 0} (before : List ℕ) (x y : Outcome A) (b : A → State → B) (t : A → State → State) → ((a : A) (u : State) → (t a u).shared.out ≡ u.shared.out) → Later A before x y → Later B before (and_then x (λ a u. Gives (b a u) (t a u))) (and_then y (λ a u. Gives (b a u) (t a u)))
@@ -73,7 +72,7 @@ later_then_quiet before x y b t e p = later_then before x y _ _ p (λ a u. quiet
 
 -- ---- the steps
 
-stops_later : (n : ℕ) (A : Type 0) (why : Stop) → Fuelled n A (stop why) (stop why)
+pub stops_later : (n : ℕ) (A : Type 0) (why : Stop) → Fuelled n A (stop why) (stop why)
 unfolding stop
 stops_later n A why s = same_step _ _ (begins_itself _)
 
@@ -103,7 +102,7 @@ reached_later n s = same_step _ _ (begins_itself _)
 
 writes_later : (n : ℕ) (bytes : List ℕ) → Fuelled n (Unit {0}) (write bytes) (write bytes)
 unfolding write
-writes_later n bytes s = same_step _ _ (bytes , refl)
+writes_later n bytes s = same_step _ _ (bytes, refl)
 
 binds_later : (n : ℕ) (A B : Type 0) (p q : Run A) (k l : A → Run B) → Fuelled n A p q → ((a : A) → Fuelled n B (k a) (l a)) → Fuelled n B (bind p k) (bind q l)
 unfolding bind
@@ -170,22 +169,23 @@ module _ (limit more : ℕ) (le : limit ≤ more) where
   fuels_later n A k l e s = e (limit - s.shared.used) (more - s.shared.used) (omega arith) s
 
   pub fuelled : (low high : List Consumer → Task → Run Flow) → ((consumers : List Consumer) (t : Task) → Fuelled (length consumers) Flow (low consumers t) (high consumers t)) → Closed Fuelled in_place limit more low high
-  fuelled low high lows = record
-    { pures = pures_later
-    ; stops = stops_later
-    ; looks = looks_later
-    ; changes_names = names_later
-    ; changes_globals = globals_later
-    ; changes_levels = levels_later
-    ; writes = writes_later
-    ; ticks = ticks_later
-    ; fuels = fuels_later
-    ; binds = binds_later
-    ; frames = frames_later
-    ; generates = generates_later
-    ; suspends = suspends_later
-    ; regions = λ n region p q e. counting_later n p q e
-    ; items = items_later
-    ; cuts = cuts_later
-    ; lifts = λ n A p q e. e
-    ; lows = lows }
+  fuelled low high lows = record {
+    pures = pures_later;
+    stops = stops_later;
+    looks = looks_later;
+    changes_names = names_later;
+    changes_globals = globals_later;
+    changes_levels = levels_later;
+    writes = writes_later;
+    ticks = ticks_later;
+    fuels = fuels_later;
+    binds = binds_later;
+    frames = frames_later;
+    generates = generates_later;
+    suspends = suspends_later;
+    regions = λ n region p q e. counting_later n p q e;
+    items = items_later;
+    cuts = cuts_later;
+    lifts = λ n A p q e. e;
+    lows = lows;
+  }

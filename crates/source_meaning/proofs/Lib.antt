@@ -6,3 +6,5 @@ mod ClosedPipelines
 mod ClosedStatements
 mod ClosedRuns
 mod Fuel
+pub mod LawsHold
+pub mod Waiting
