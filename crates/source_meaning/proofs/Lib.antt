@@ -8,3 +8,4 @@ mod ClosedRuns
 mod Fuel
 pub mod LawsHold
 pub mod Waiting
+pub mod Equations

@@ -17,3 +17,7 @@ pub mod Pipelines
 pub mod Statements
 pub mod Meaning
 pub mod Laws
+pub mod Scopes
+pub mod Seen
+pub mod Tasks
+pub mod Lists

@@ -1,6 +1,7 @@
 //! The syntax trees of sources: one variant for each form of the grammar, each node with its number in preorder and its place, and the walks over trees that later crates share. It knows nothing of tokens, nor of what a tree means.
 #![tactic(auto)]
 
+mod clone;
 mod expression;
 mod item;
 mod node;
