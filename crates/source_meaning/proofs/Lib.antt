@@ -9,3 +9,4 @@ mod Fuel
 pub mod LawsHold
 pub mod Waiting
 pub mod Equations
+pub mod BodyEquations

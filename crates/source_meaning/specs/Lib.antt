@@ -21,3 +21,4 @@ pub mod Scopes
 pub mod Seen
 pub mod Tasks
 pub mod Lists
+pub mod Walked

@@ -1,1 +1,16 @@
 //! What a source means, by definitions over its tree: what it prints, how it ends, and which regions it runs, on so much fuel. It promises the laws of these definitions, and knows nothing of types, machine code or threads.
+#![tactic(auto)]
+
+mod bodies;
+mod expressions;
+mod flow;
+mod law;
+mod names;
+mod prepared;
+mod runner;
+mod scope;
+mod state;
+mod task;
+mod variables;
+
+pub use law::{keeps_waiting, law_of_fuel, prints_more};
