@@ -10,3 +10,7 @@ pub mod LawsHold
 pub mod Waiting
 pub mod Equations
 pub mod BodyEquations
+pub mod Held
+pub mod Rest
+pub mod Left
+pub mod Parts

@@ -22,3 +22,7 @@ pub mod Seen
 pub mod Tasks
 pub mod Lists
 pub mod Walked
+pub mod Callees
+pub mod Collected
+pub mod Flows
+pub mod Frames

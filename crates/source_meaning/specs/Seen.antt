@@ -1,5 +1,6 @@
 -- What the interpreter's state stands for among the definitions, and what a part of the interpreter promises.
 use Rattle.std.specs.Prelude.{◌≡◌, ◌≢◌, ℕ, zero, suc, if◌then◌else◌, List, [], ◌∷◌, map, reverse, Result, Ok, Err}
+use Rattle.codon_base.specs.declared.fault.FaultKind.{FaultKind}
 use Rattle.codon_base.specs.declared.value.Value.{Value}
 use Rattle.codon_base.specs.declared.value.Value.TheVariants.{Unset}
 use Rattle.source_meaning.specs.State as meaning
@@ -67,6 +68,22 @@ abbrev pub Tells : {A : Type 0} → Outcome A → Result A Stop → State → Ty
 Tells outcome (Ok a) new = outcome ≡ Gives a (seen new)
 Tells outcome (Err e) new = e ≢ stop.Memory → outcome ≡ Stops (why_of e) (seen new)
 
+-- the same, where what the part gives stands for what the definitions give
+abbrev pub TellsBy : {A B : Type 0} → (B → A) → Outcome A → Result B Stop → State → Type 0
+TellsBy meant outcome (Ok b) new = outcome ≡ Gives (meant b) (seen new)
+TellsBy meant outcome (Err e) new = e ≢ stop.Memory → outcome ≡ Stops (why_of e) (seen new)
+
 abbrev pub TellsFlow : Outcome meaning.Flow → Result Flow Stop → State → Type 0
-TellsFlow outcome (Ok flow) new = outcome ≡ Gives (flow_of flow) (seen new)
-TellsFlow outcome (Err e) new = e ≢ stop.Memory → outcome ≡ Stops (why_of e) (seen new)
+TellsFlow outcome result new = TellsBy flow_of outcome result new
+
+abbrev pub TellsNames : Outcome meaning.Names → Result Names Stop → State → Type 0
+TellsNames outcome result new = TellsBy names_of outcome result new
+
+-- a part that neither reads nor changes the state gives or stops as the definitions do
+abbrev pub TellsAt : {A : Type 0} → Outcome A → Result A Stop → meaning.State → Type 0
+TellsAt outcome (Ok a) s = outcome ≡ Gives a s
+TellsAt outcome (Err e) s = e ≢ stop.Memory → outcome ≡ Stops (why_of e) s
+
+-- the stop is by that fault, unless memory fails
+abbrev pub IsFault : Stop → FaultKind → List ℕ → Type 0
+IsFault e kind text = e ≢ stop.Memory → why_of e ≡ meaning.Faulted (record { kind = kind; text = text })

@@ -13,7 +13,7 @@ use Rattle.source_meaning.specs.Seen.{seen, TellsFlow}
 use Rattle.source_meaning.specs.declared.state.State.{State}
 use Rattle.source_meaning.specs.declared.state.Stop.{Stop}
 use Rattle.source_meaning.specs.declared.flow.Flow.{Flow}
-use Rattle.source_meaning.specs.declared.prepared.Known.{Known}
+use Rattle.source_meaning.specs.declared.prepared.Called.{Called}
 use Rattle.source_meaning.specs.declared.prepared.Prepared.{Prepared}
 use Rattle.source_meaning.specs.declared.task.Region.{Region}
 use Rattle.source_meaning.specs.declared.task.Consumer.{Consumer}
@@ -23,13 +23,13 @@ use Rattle.source_meaning.specs.declared.task.Task.TheVariants as one
 
 -- ---- programs
 
-abbrev pub known_of : Known → program.Known
-known_of k = record { function = k.function.now; in_prelude = k.in_prelude }
+abbrev pub known_of : Called → program.Known
+known_of c = record { function = c.known.now.function.now; in_prelude = c.in_prelude }
 
 unfoldable pub program_of : Prepared → program.Program
 program_of p = record {
   functions = map (λ k. k.function.now) p.functions.items;
-  classes = map (λ c. c.now) p.classes.items;
+  classes = map (λ c. c.class.now) p.classes.items;
   variables = p.variables;
   prelude = map (λ k. k.function.now) p.prelude.items;
 }

@@ -4,7 +4,7 @@ ghost use Rattle.source_meaning.specs.Expressions as spec;
 ghost use Rattle.source_meaning.specs.Seen.{seen, Tells};
 ghost use Rattle.source_meaning.specs.Scopes.{scope_of};
 ghost use Rattle.source_meaning.specs.Tasks.{Nests, here};
-ghost use Rattle.source_meaning.specs.Lists.{some_true};
+ghost use Rattle.source_meaning.specs.Lists.{some_true, all_true};
 
 use crate::flow::Flow;
 use crate::prepared::Prepared;
@@ -12,8 +12,10 @@ use crate::runner::Runner;
 use crate::scope::Scope;
 use crate::state::{State, Stop};
 use crate::task::{Consumer, Task};
-use crate::variables::{read_name, truth};
-use codon_base::{Value, Values};
+use crate::objects::{allocate, field, item_at};
+use crate::operations::{binary, truth, unary};
+use crate::variables::read_name;
+use codon_base::{Object, Value, Values};
 use source_trees::Expr;
 use sqlite_items::Items;
 use std::alloc::Global;
@@ -42,9 +44,32 @@ impl<'m, F: Fn(Global, &Prepared<'_>, u64, u32, &mut State, &[Consumer<'_>], Tas
                 }
             }
             Expr::Or(_, operands) => self.some_true(state, scope, operands.as_slice()),
+            Expr::And(_, operands) => self.all_true(state, scope, operands.as_slice()),
             Expr::Not(_, operand) => {
                 let truth = self.condition(state, scope, operand.get())?;
                 Ok(Value::Bool(!truth))
+            }
+            Expr::List(_, items) => {
+                let items = self.exprs(state, scope, items.as_slice())?;
+                allocate(state, Object::List(items))
+            }
+            Expr::Unary(_, by, operand) => {
+                let v = self.expr(state, scope, operand.get())?;
+                unary(self.alloc, state, *by, &v)
+            }
+            Expr::Binary(_, by, left, right) => {
+                let v = self.expr(state, scope, left.get())?;
+                let w = self.expr(state, scope, right.get())?;
+                binary(self.alloc, state, *by, &v, &w)
+            }
+            Expr::Index(_, container, index) => {
+                let v = self.expr(state, scope, container.get())?;
+                let w = self.expr(state, scope, index.get())?;
+                item_at(self.alloc, state, &v, &w)
+            }
+            Expr::Field(_, object, name) => {
+                let v = self.expr(state, scope, object.get())?;
+                field(self.alloc, state, self.program, &v, name)
             }
             _ => Err(Stop::Memory),
         }
@@ -84,5 +109,18 @@ impl<'m, F: Fn(Global, &Prepared<'_>, u64, u32, &mut State, &[Consumer<'_>], Tas
             }
         }
         Ok(Value::Bool(false))
+    }
+
+    #[cycle(expression)]
+    fn all_true(&self, state: &mut State, scope: &Scope<'_>, operands: &[Expr]) -> Result<Value, Stop>
+        requires { Nests self.now.program.now self.now.limit self.now.depth (F.pre self.now.low) (F.post self.now.low) }
+        ensures { Tells (all_true (here self.now.program.now self.now.limit self.now.depth) (scope_of scope.now) operands.now (seen state.old)) result state.new }
+    {
+        'operands: for e in operands {
+            if !self.condition(state, scope, e)? {
+                return Ok(Value::Bool(false));
+            }
+        }
+        Ok(Value::Bool(true))
     }
 }

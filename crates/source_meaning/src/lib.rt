@@ -2,15 +2,20 @@
 #![tactic(auto)]
 
 mod bodies;
+mod callee;
 mod expressions;
 mod flow;
+mod frames;
 mod law;
 mod names;
+mod objects;
+mod operations;
 mod prepared;
 mod runner;
 mod scope;
 mod state;
 mod task;
 mod variables;
+mod words;
 
 pub use law::{keeps_waiting, law_of_fuel, prints_more};

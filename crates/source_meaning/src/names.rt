@@ -21,6 +21,7 @@ pub(crate) fn is_among(name: &Spelling, names: &[Spelling]) -> bool
 }
 
 impl Names {
+    #[tactic(auto, unfolding(crate::specs::Seen::names_of))]
     pub(crate) fn new(alloc: Global) -> Names
         ensures { names_of result ≡ unset_names }
     {

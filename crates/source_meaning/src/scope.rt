@@ -1,7 +1,6 @@
-ghost use Rattle.std.specs.Prelude.{◌≡◌, map};
+ghost use Rattle.std.specs.Prelude.{◌≡◌};
 ghost use Rattle.source_meaning.specs.State.{is_among};
-ghost use Rattle.source_meaning.specs.Bodies.{loop_names};
-ghost use Rattle.source_meaning.specs.Scopes.{scope_of};
+ghost use Rattle.source_meaning.specs.Scopes.{scope_of, has_local, sets};
 
 use crate::names::{is_among, same};
 use codon_base::Spelling;
@@ -18,7 +17,7 @@ pub(crate) struct Scope<'a> {
 
 /// Whether a loop sets a name.
 pub(crate) fn sets(names: &LoopNames, name: &Spelling) -> bool
-    ensures { result ≡ is_among name.now (loop_names names.now) }
+    ensures { result ≡ sets name.now names.now }
 {
     match names {
         LoopNames::One(only) => same(name, &only.spelling),
@@ -26,11 +25,17 @@ pub(crate) fn sets(names: &LoopNames, name: &Spelling) -> bool
     }
 }
 
+fn has_local(scope: &Scope<'_>, name: &Spelling) -> bool
+    ensures { result ≡ has_local name.now scope.now }
+{
+    scope.inner.iter().any(|names| sets(names, name)) || is_among(name, scope.locals)
+}
+
 impl<'a> Scope<'a> {
     /// Whether a name is a variable of the text.
     pub(crate) fn has(&self, name: &Spelling) -> bool
         ensures { result ≡ is_among name.now (scope_of self.now).locals }
     {
-        self.inner.iter().any(|names| sets(names, name)) || is_among(name, self.locals)
+        has_local(self, name)
     }
 }

@@ -1,15 +1,16 @@
 ghost use Rattle.source_meaning.specs.Variables as spec;
-ghost use Rattle.source_meaning.specs.Objects as objects;
-ghost use Rattle.source_meaning.specs.Iterations.{in_place};
-ghost use Rattle.std.specs.Prelude.{IsTrue, nat_lt, codes};
+ghost use Rattle.std.specs.Prelude.{IsTrue, nat_lt, codes, map};
 ghost use Rattle.std.specs.List.{list_all};
-ghost use Rattle.source_meaning.specs.Outcome.{◌>>=◌, tick, fault};
-ghost use Rattle.source_meaning.specs.Seen.{seen, Tells};
+ghost use Rattle.source_meaning.specs.Outcome.{tick};
+ghost use Rattle.source_meaning.specs.Seen.{seen, Tells, TellsAt, IsFault};
+ghost use Rattle.codon_base.specs.declared.fault.FaultKind.TheVariants as kind;
 ghost use Rattle.source_meaning.specs.Scopes.{scope_of};
+ghost use Rattle.source_meaning.specs.Lists.{named};
 
 use crate::scope::Scope;
 use crate::state::{State, Stop};
-use codon_base::{Fault, FaultKind, Spelling, Text, Value};
+use codon_base::{Fault, FaultKind, Spelling, Text, Value, Values};
+use source_trees::{LoopNames, Name};
 use std::alloc::Global;
 
 /// Takes a tick, where one is left.
@@ -66,27 +67,82 @@ pub(crate) fn read_name(
     scope: &Scope<'_>,
     name: &Spelling,
 ) -> Result<Value, Stop>
-    ensures { Tells ((spec.held_by (scope_of scope.now) name.now >>= objects.if_set (codes "name is not set")) (seen state.old)) result state.new }
+    ensures { Tells (named (scope_of scope.now) name.now (seen state.old)) result state.new }
 {
     match held_by(alloc, state, scope, name)? {
-        Value::Unset => fault(alloc, state, FaultKind::Runtime, b"name is not set"),
+        Value::Unset => Err(fault(alloc, FaultKind::Runtime, b"name is not set")),
         v => Ok(v),
     }
 }
 
 
-/// Stops with a fault.
-#[tactic(auto, unfolding(crate::specs::Outcome::stop))]
-pub(crate) fn fault<T>(alloc: Global, state: &mut State, kind: FaultKind, text: &[u8]) -> Result<T, Stop>
+/// The stop by a fault, or for want of memory.
+pub(crate) fn fault(alloc: Global, kind: FaultKind, text: &[u8]) -> Stop
     requires { IsTrue (list_all (λ b. nat_lt b 128) text.now) }
-    ensures { Tells (fault kind text.now (seen state.old)) result state.new }
+    ensures { IsFault result kind text.now }
 {
-    let text = Text::from_slice(alloc, text)?;
-    Err(Stop::Faulted(Fault { kind, text }))
+    match Text::from_slice(alloc, text) {
+        Ok(text) => Stop::Faulted(Fault { kind, text }),
+        Err(_) => Stop::Memory,
+    }
 }
 
-pub(crate) fn truth(alloc: Global, state: &mut State, v: &Value) -> Result<bool, Stop>
-    ensures { Tells (objects.truth in_place v.now (seen state.old)) result state.new }
+/// The stop where the rules of the language give no value.
+pub(crate) fn wrong(alloc: Global) -> Stop
+    ensures { IsFault result kind.Runtime (codes "wrong kind") }
 {
-    Err(Stop::Memory)
+    fault(alloc, FaultKind::Runtime, b"wrong kind")
+}
+
+/// The names of a loop or a comprehension take an item.
+pub(crate) fn set_loop_names(
+    alloc: Global,
+    state: &mut State,
+    scope: &Scope<'_>,
+    names: &LoopNames,
+    v: Value,
+) -> Result<(), Stop>
+    ensures { Tells (spec.set_loop_names (scope_of scope.now) names.now v (seen state.old)) result state.new }
+{
+    match names {
+        LoopNames::One(name) => set_name(alloc, state, scope, &name.spelling, v),
+        LoopNames::Several(all) => {
+            let items = unpacked(alloc, all.len(), v)?;
+            set_each(alloc, state, scope, all.as_slice(), items.as_slice())
+        }
+    }
+}
+
+/// The items of a tuple of that many.
+pub(crate) fn unpacked(alloc: Global, count: usize, v: Value) -> Result<Values, Stop>
+    ensures { (s : _) → TellsAt (spec.unpacked count v s) result s }
+{
+    match v {
+        Value::Tuple(items) => {
+            if items.len() == count {
+                Ok(items)
+            } else {
+                Err(wrong(alloc))
+            }
+        }
+        _ => Err(wrong(alloc)),
+    }
+}
+
+fn set_each(
+    alloc: Global,
+    state: &mut State,
+    scope: &Scope<'_>,
+    names: &[Name],
+    items: &[Value],
+) -> Result<(), Stop>
+    ensures { Tells (spec.set_each (scope_of scope.now) (map (λ name. name.spelling) names.now) items.now (seen state.old)) result state.new }
+{
+    'names: for (place, name) in names.iter().enumerate() {
+        match items.get(place) {
+            Some(item) => set_name(alloc, state, scope, &name.spelling, item.try_clone(alloc)?)?,
+            None => return Ok(()),
+        }
+    }
+    Ok(())
 }

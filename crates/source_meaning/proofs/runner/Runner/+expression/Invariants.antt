@@ -1,0 +1,24 @@
+use Rattle.std.proofs.Common.{◌≡◌, drop}
+use Rattle.source_meaning.specs.Expressions as spec
+use Rattle.source_meaning.specs.Lists as lists
+use Rattle.source_meaning.specs.Collected.{collect}
+use Rattle.source_meaning.specs.Seen.{seen}
+use Rattle.source_meaning.specs.Scopes.{scope_of}
+use Rattle.source_meaning.specs.Tasks.{here}
+use Rattle.source_meaning.proofs.Rest.{after}
+use Rattle.source_meaning.proofs.runner.Runner.+expression.Given as goal
+
+abbrev pub invariant-exprs-items : goal.invariant-exprs-items
+invariant-exprs-items g l =
+    let at = here l.self.program.now l.self.limit l.self.depth in
+    spec.exprs at (scope_of l.scope) l.items (seen l.fn.state) ≡ after l.done (collect (spec.expr at (scope_of l.scope)) (drop l.e-index l.items) (seen l.state))
+
+abbrev pub invariant-some_true-operands : goal.invariant-some_true-operands
+invariant-some_true-operands g l =
+    let at = here l.self.program.now l.self.limit l.self.depth in
+    lists.some_true at (scope_of l.scope) l.operands (seen l.fn.state) ≡ lists.some_true at (scope_of l.scope) (drop l.e-index l.operands) (seen l.state)
+
+abbrev pub invariant-all_true-operands : goal.invariant-all_true-operands
+invariant-all_true-operands g l =
+    let at = here l.self.program.now l.self.limit l.self.depth in
+    lists.all_true at (scope_of l.scope) l.operands (seen l.fn.state) ≡ lists.all_true at (scope_of l.scope) (drop l.e-index l.operands) (seen l.state)
