@@ -1,4 +1,15 @@
+mod Closed
+mod ClosedObjects
+mod ClosedLoops
+mod ClosedExpressions
+mod ClosedPipelines
+mod ClosedStatements
+mod ClosedRuns
+mod Fuel
+pub mod LawsHold
+pub mod Waiting
 pub mod Equations
+pub mod BodyEquations
 pub mod Held
 pub mod Rest
 pub mod Left

@@ -1,8 +1,9 @@
 -- Calls of functions, methods and classes (the Python reference, 6.3.4 and 8.7). Each entry into a body takes a tick, after the arguments were evaluated.
-use Rattle.std.specs.Prelude.{ℕ, true, false, if◌then◌else◌, List, [], ◌∷◌, map, Option, Some, None, ◌==◌, length, slice_get, neg_ℤ, codes}
+use Rattle.std.specs.Prelude.{ℕ, true, false, if◌then◌else◌, List, [], ◌∷◌, map, Option, Some, None, ◌==◌, length, slice_get, codes}
 use Rattle.codon_base.specs.declared.fault.FaultKind.TheVariants as kind
 use Rattle.codon_base.specs.declared.value.Value.{Value, out-Value}
 use Rattle.codon_base.specs.declared.value.Value.TheVariants as value
+use Rattle.codon_base.specs.Number.{negation_of}
 use Rattle.codon_base.specs.declared.object.Object.TheVariants.{Instance}
 use Rattle.source_trees.specs.declared.expression.Expr.{Expr, Expr-F, out-Expr}
 use Rattle.source_trees.specs.declared.expression.Comparison.{Comparison}
@@ -21,7 +22,7 @@ use Rattle.source_meaning.specs.Task.{Enter, Setting}
 -- ---- arguments
 
 abbrev pub negative_number : UnaryOp → Expr-F Expr Comparison → Option Value
-negative_number unary.Minus (Expr-F.Number n z) = Some (value.Int (neg_ℤ z))
+negative_number unary.Minus (Expr-F.Number n z) = Some (value.Int (negation_of z))
 negative_number _ _ = None
 
 -- a default is a number, which may have one minus before it, a text, True, False or None

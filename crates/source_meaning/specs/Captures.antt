@@ -13,7 +13,7 @@ use Rattle.source_trees.specs.declared.statement.Stmt.{Stmt}
 use Rattle.source_meaning.specs.State.{Spelling, same, is_among}
 use Rattle.source_meaning.specs.Outcome.{Run, ◌>>=◌, pure, look}
 use Rattle.source_meaning.specs.Bodies.{assigned, assigned_outside, loop_names}
-use Rattle.source_meaning.specs.Mentions.{Note, Calls, CallsMethod, notes_of_body, mentioned, written_places}
+use Rattle.source_meaning.specs.Mentions.{but_of, Note, Calls, CallsMethod, notes_of_body, mentioned, written_places}
 use Rattle.source_meaning.specs.Program.{Program, Scope, function_scope, is_variable, methods_of, initializer_name}
 use Rattle.source_meaning.specs.Task.{Region}
 use Rattle.source_meaning.specs.Variables.{read_name}
@@ -78,10 +78,9 @@ abbrev pub each_once : List Spelling → List Spelling
 each_once [] = []
 each_once (name ∷ more) = name ∷ filter (λ other. not (same name other)) (each_once more)
 
--- the names that a function mentions and that are none of its own
-abbrev pub mentioned_outside : Callable → List Spelling
-mentioned_outside callable =
-    filter (λ name. not (is_among name (function_scope false callable.function).locals)) (mentioned (notes_of_body callable.function.body))
+-- the notes of a function but for its own names
+abbrev pub notes_outside : Callable → List Note
+notes_outside callable = but_of (function_scope false callable.function).locals (notes_of_body callable.function.body)
 
 -- the variables round a text that it mentions, but for names of its own
 abbrev pub outer_names : Program → Scope → List Spelling → List Note → List Spelling
@@ -91,10 +90,10 @@ outer_names program scope own notes = each_once (filter (λ name. is_variable pr
 abbrev pub outside : Scope → Scope
 outside scope = record scope { locals = [] }
 
--- the module's variables that the functions mention that a text reaches, without those that were read already
+-- the module's variables that the functions mention that a text reaches, in node order, without those that were read already
 abbrev pub module_names : Program → Scope → List Spelling → List Note → List Spelling
 module_names program scope outer notes =
-    each_once (filter (λ name. is_among name program.variables && not (is_among name outer && not (is_among name scope.locals))) (flat_map mentioned_outside (reached program notes)))
+    each_once (filter (λ name. is_among name program.variables && not (is_among name outer && not (is_among name scope.locals))) (mentioned (flat_map notes_outside (reached program notes))))
 
 -- ---- the beginning of a region
 

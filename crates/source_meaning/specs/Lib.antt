@@ -16,10 +16,12 @@ pub mod Printing
 pub mod Pipelines
 pub mod Statements
 pub mod Meaning
+pub mod Laws
 pub mod Scopes
 pub mod Seen
 pub mod Tasks
 pub mod Lists
+pub mod Walked
 pub mod Callees
 pub mod Collected
 pub mod Flows

@@ -1,7 +1,8 @@
-//! What a source means, by definitions, and the interpreter that computes it.
+//! What a source means, by definitions over its tree: what it prints, how it ends, and which regions it runs, on so much fuel. It promises the laws of these definitions, and knows nothing of types, machine code or threads.
 #![tactic(auto)]
 
 mod arguments;
+mod bodies;
 mod callee;
 mod calls;
 mod cursor;
@@ -27,4 +28,4 @@ mod task;
 mod variables;
 mod words;
 
-pub use law::law_of_fuel;
+pub use law::{keeps_waiting, law_of_fuel, prints_more};

@@ -1,5 +1,5 @@
 -- The height of a tree: a node without parts has height 1, any other is one higher than its highest part (Knuth, The Art of Computer Programming, 2.3).
-use Rattle.std.specs.Prelude.{ℕ, ◌+◌, max, List, [], ◌∷◌}
+use Rattle.std.specs.Prelude.{ℕ, ◌+◌, min, max, List, [], ◌∷◌}
 use Rattle.source_trees.specs.declared.node.Node.{Node}
 use Rattle.source_trees.specs.declared.expression.Expr.{Expr}
 use Rattle.source_trees.specs.declared.statement.Target.{Target}
@@ -74,3 +74,7 @@ height_of_item = of_item over_parts
 -- of a source: that of its highest item
 abbrev pub height_of : Module → ℕ
 height_of m = highest (of_module over_parts m)
+
+-- a height as 32 bits hold it: the greatest number of them stands for each height from it on
+abbrev pub capped : ℕ → ℕ
+capped height = min height 0xffff_ffff

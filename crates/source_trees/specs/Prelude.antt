@@ -32,7 +32,7 @@
 --     while i >= 0:
 --         yield xs[i]
 --         i -= 1
-use Rattle.std.specs.Prelude.{ℕ, List, [], ◌∷◌, Option, Some, None, pos, codes}
+use Rattle.std.specs.Prelude.{ℕ, List, [], ◌∷◌, ◌++◌, Option, Some, None, pos, codes}
 use Rattle.source_trees.specs.declared.operator.UnaryOp.TheVariants.{Minus}
 use Rattle.source_trees.specs.declared.operator.BinaryOp.TheVariants.{Add, Subtract}
 use Rattle.source_trees.specs.declared.operator.Comparator.{Comparator}
@@ -42,6 +42,7 @@ use Rattle.source_trees.specs.declared.node.Name.{Name}
 use Rattle.source_trees.specs.declared.expression.Commas.TheVariants.{Bare}
 use Rattle.source_trees.specs.declared.expression.Expr.{Expr}
 use Rattle.source_trees.specs.declared.expression.Expr.TheVariants as expr
+use Rattle.source_trees.specs.declared.expression.Comparison.{Comparison}
 use Rattle.source_trees.specs.declared.statement.LoopNames.TheVariants as names
 use Rattle.source_trees.specs.declared.statement.Target.TheVariants as target
 use Rattle.source_trees.specs.declared.statement.Targets.TheVariants as targets
@@ -51,6 +52,7 @@ use Rattle.source_trees.specs.declared.item.Annotation.{Annotation}
 use Rattle.source_trees.specs.declared.item.Annotation.TheVariants as annotation
 use Rattle.source_trees.specs.declared.item.Param.{Param}
 use Rattle.source_trees.specs.declared.item.Function.{Function}
+use Rattle.source_trees.specs.declared.item.Item.{Item}
 use Rattle.source_trees.specs.declared.item.Item.TheVariants as item
 use Rattle.source_trees.specs.declared.item.Module.{Module}
 
@@ -287,5 +289,11 @@ reversed_function = record { node = node 101 502 28 1; name = named (node 102 50
 
 -- ---- the whole
 
+unfoldable pub fold_items : List Item
+fold_items = item.Function abs_function ∷ item.Function sum_function ∷ item.Function any_function ∷ item.Function all_function ∷ []
+
+unfoldable pub generator_items : List Item
+generator_items = item.Function enumerate_function ∷ item.Function zip_function ∷ item.Function reversed_function ∷ []
+
 unfoldable pub prelude : Module
-prelude = record { items = item.Function abs_function ∷ item.Function sum_function ∷ item.Function any_function ∷ item.Function all_function ∷ item.Function enumerate_function ∷ item.Function zip_function ∷ item.Function reversed_function ∷ [] }
+prelude = record { items = fold_items ++ generator_items }

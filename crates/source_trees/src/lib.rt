@@ -7,6 +7,7 @@ mod item;
 mod node;
 mod operator;
 mod pipeline;
+mod prelude_tree;
 mod statement;
 
 pub use expression::{Commas, Comparison, Expr};
@@ -14,4 +15,5 @@ pub use item::{Annotation, Class, Function, Item, Member, Module, Param};
 pub use node::{Name, Node};
 pub use operator::{BinaryOp, Comparator, UnaryOp};
 pub use pipeline::{Joint, PrintOptions, Printed, Stage, StageForm};
+pub use prelude_tree::prelude;
 pub use statement::{Arm, For, LoopNames, ParOptions, Schedule, Stmt, Target, Targets};
