@@ -19,7 +19,7 @@ pub mod StatementEquations
 pub mod Turns
 pub mod Blocks
 pub mod Over
-pub mod Arguments
-pub mod Methods
+pub mod GivenValues
+pub mod MethodCalls
 pub mod Results
 pub mod Assigns

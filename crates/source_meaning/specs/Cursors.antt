@@ -1,5 +1,5 @@
 -- The turns of loops in place, one after another, as the interpreter makes them.
-use Rattle.std.specs.Prelude.{ℕ, ◌+◌, Bool, if◌then◌else◌, Option, Some, None, ℤ, pos, negsuc, ◌+ℤ◌, int_lt, not, ◌&&◌, codes}
+use Rattle.std.specs.Prelude.{ℕ, ◌+◌, Bool, if◌then◌else◌, Option, Some, None, ℤ, pos, negsuc, ◌+ℤ◌, nat_lt, codes}
 use Rattle.codon_base.specs.declared.fault.FaultKind.TheVariants as kind
 use Rattle.codon_base.specs.declared.value.Value.{Value, out-Value}
 use Rattle.codon_base.specs.declared.value.Value.TheVariants as value
@@ -13,7 +13,8 @@ use Rattle.source_meaning.specs.declared.iterable.Cursor.TheVariants as cursor
 
 -- whether a number is in the range of int
 abbrev pub in_range : ℤ → Bool
-in_range z = not (int_lt z (negsuc 9223372036854775807)) && not (int_lt (pos 9223372036854775807) z)
+in_range (pos n) = nat_lt n 9223372036854775808
+in_range (negsuc n) = nat_lt n 9223372036854775808
 
 abbrev pub advanced : ℤ → ℤ → ℤ → Cursor
 advanced at stop step = if in_range (at +ℤ step) then cursor.Number (at +ℤ step) stop step else cursor.Ended

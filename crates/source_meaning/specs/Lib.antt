@@ -30,3 +30,4 @@ pub mod Cursors
 pub mod Steps
 pub mod Targets
 pub mod Kinds
+pub mod Pieces

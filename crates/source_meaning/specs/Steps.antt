@@ -16,8 +16,6 @@ use Rattle.source_meaning.specs.Calls.{arguments}
 use Rattle.source_meaning.specs.Loops as loops
 use Rattle.source_meaning.specs.Loops.{loop, over, generate, while_next, after_loop}
 use Rattle.source_meaning.specs.Expressions.{condition, iterable}
-use Rattle.source_meaning.specs.Printing as printing
-use Rattle.source_meaning.specs.Printing.{texts_of, separated}
 use Rattle.source_meaning.specs.Statements.{goes_over_range, statements}
 use Rattle.source_meaning.specs.Meaning.{turn_of}
 use Rattle.source_meaning.specs.Cursors.{next_by}
@@ -25,19 +23,11 @@ use Rattle.source_meaning.specs.Tasks.{known_of}
 use Rattle.source_meaning.specs.declared.iterable.Cursor.{Cursor}
 use Rattle.source_meaning.specs.declared.iterable.Iterable.{Iterable}
 use Rattle.source_meaning.specs.declared.iterable.Iterable.TheVariants as goes
-use Rattle.source_meaning.specs.declared.printing.Ends.{Ends}
 
 abbrev pub iterable_of : Iterable → loops.Iterable
 iterable_of (goes.Numbers start stop step) = loops.Numbers start stop step
 iterable_of (goes.Items container) = loops.Items container
 iterable_of (goes.Generated called given) = loops.Generated (known_of called) given
-
-abbrev pub ends_of : Ends → printing.Ends
-ends_of e = record { between = e.between; last = e.last }
-
--- the piece that a `print` writes
-abbrev pub joined : Rules → List Value → List ℕ → List ℕ → Run (List ℕ)
-joined rules vs between last = texts_of rules vs >>= λ texts. pure (separated between texts ++ last)
 
 module _ (here : Setting) where
   abbrev pub generated : List Consumer → Consumer → Known → List Value → Run Flow

@@ -67,6 +67,15 @@ pub(crate) fn arguments(alloc: Global, params: &[Param], given: Values) -> Resul
     Ok(Some(all))
 }
 
+/// A parameter with an equal value.
+fn entry_of(alloc: Global, param: &Param, value: &Value) -> Result<Entry, Memory>
+    ensures { IfOk result (λ entry. entry ≡ record { name = param.now.name; value = value.now }) }
+{
+    let name = Spelling::from_slice(alloc, param.name.as_slice())?;
+    let value = value.try_clone(alloc)?;
+    Ok(Entry { name, value })
+}
+
 /// The names of a body that begins.
 pub(crate) fn parameters(alloc: Global, params: &[Param], given: &[Value]) -> Result<Names, Memory>
     ensures { IfOk result (λ names. names_of names ≡ spec.parameters params.now given.now) }
@@ -77,9 +86,7 @@ pub(crate) fn parameters(alloc: Global, params: &[Param], given: &[Value]) -> Re
         let [value, more @ ..] = rest else {
             return Ok(Names { entries });
         };
-        let name = Spelling::from_slice(alloc, param.name.as_slice())?;
-        let value = value.try_clone(alloc)?;
-        entries.push(Entry { name, value })?;
+        entries.push(entry_of(alloc, param, value)?)?;
         rest = more;
     }
     Ok(Names { entries })

@@ -22,7 +22,7 @@ use crate::operations::{binary, builtin, compared, truth, unary};
 use crate::prepared::Prepared;
 use crate::ranges::range_of;
 use crate::runner::Runner;
-use crate::scope::{Scope, within};
+use crate::scope::{Inner, Scope, within};
 use crate::state::{State, Stop};
 use crate::task::{Consumer, Task};
 use crate::variables::{fault, left, read_name, set_loop_names, wrong};
@@ -331,7 +331,7 @@ impl<'m, F: Fn(Global, &Prepared<'_>, u64, u32, &mut State, &[Consumer<'_>], Tas
         requires { Nests self.now.program.now self.now.limit self.now.depth (F.pre self.now.low) (F.post self.now.low) }
         ensures { Tells (comprehended_of (here self.now.program.now self.now.limit self.now.depth) (scope_of scope.now) names.now (iterable_of goes_over.entry) condition.now item.now (seen state.old)) result state.new }
     {
-        let all = within(self.alloc, names, scope.inner)?;
+        let all = within(self.alloc, Inner { names }, scope.inner)?;
         let inner = Scope { inner: &all, locals: scope.locals, fixed: scope.fixed, in_prelude: scope.in_prelude };
         let list = allocate(state, Object::List(Items::new(self.alloc)))?;
         let own = state.names.try_clone(self.alloc)?;

@@ -1,6 +1,6 @@
-#![tactic(auto, unfolding(crate::specs::Outcome::bind, crate::specs::Outcome::pure, crate::specs::Outcome::stop), using(crate::proofs::Methods::method_rules))]
+#![tactic(auto, unfolding(crate::specs::Outcome::bind, crate::specs::Outcome::pure, crate::specs::Outcome::stop), using(crate::proofs::MethodCalls::method_rules))]
 
-ghost use Rattle.std.specs.Prelude.{[]};
+ghost use Rattle.std.specs.Prelude.{◌≡◌, []};
 ghost use Rattle.source_meaning.specs.Calls as calls;
 ghost use Rattle.source_meaning.specs.Expressions as spec;
 ghost use Rattle.source_meaning.specs.Meaning.{turn_of};

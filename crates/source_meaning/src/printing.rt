@@ -5,7 +5,7 @@ ghost use Rattle.codon_base.specs.declared.value.Value.{out-Value};
 ghost use Rattle.codon_base.specs.declared.value.Value.TheVariants as value;
 ghost use Rattle.source_meaning.specs.Objects as objects;
 ghost use Rattle.source_meaning.specs.Iterations.{in_place};
-ghost use Rattle.source_meaning.specs.Steps.{ends_of, joined};
+ghost use Rattle.source_meaning.specs.Pieces.{ends_of, joined};
 ghost use Rattle.source_meaning.specs.Printing as spec;
 ghost use Rattle.source_meaning.specs.Seen.{seen, Tells, TellsBy, TellsAt};
 ghost use Rattle.source_meaning.specs.Scopes.{scope_of};

@@ -1,6 +1,6 @@
 use Rattle.std.proofs.Common.{◌≡◌, [], drop}
 use Rattle.source_meaning.specs.Calls as spec
-use Rattle.source_meaning.proofs.Arguments.{more}
+use Rattle.source_meaning.proofs.GivenValues.{more}
 use Rattle.source_meaning.proofs.arguments.arguments.Given as goal
 
 abbrev pub invariant-params : goal.invariant-params

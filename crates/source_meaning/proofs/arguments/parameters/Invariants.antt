@@ -1,6 +1,6 @@
 use Rattle.std.proofs.Common.{◌≡◌, drop}
 use Rattle.source_meaning.specs.Calls as spec
-use Rattle.source_meaning.proofs.Arguments.{held_then}
+use Rattle.source_meaning.proofs.GivenValues.{held_then}
 use Rattle.source_meaning.proofs.arguments.parameters.Given as goal
 
 abbrev pub invariant-params : goal.invariant-params

@@ -88,3 +88,16 @@ params_end params i es vs h = ap (λ l. held_then es (parameters l vs)) (drop_en
 
 pub values_end : (params : List Param) (es : List Entry) → held_then es (parameters params []) ≡ held_in es
 values_end params es = ap (held_then es) (no_values params) ∙ (λ j other. then_none es other j)
+
+-- what the names are after a parameter, by the values that are left
+abbrev pub names_after : Param → List Param → List Entry → List Value → Names
+names_after param rest es [] = held_then es unset_names
+names_after param rest es (v ∷ vs) = held_then (es ++ (record { name = param.name; value = v }) ∷ []) (parameters rest vs)
+
+step_by : (param : Param) (rest : List Param) (es : List Entry) (vs : List Value) → held_then es (parameters (param ∷ rest) vs) ≡ names_after param rest es vs
+step_by param rest es [] = refl
+step_by param rest es (v ∷ vs) = sym (λ j other. then_push es (record { name = param.name; value = v }) (parameters rest vs) other j)
+
+pub param_step : (params : List Param) (i : ℕ) (x : Param) (es : List Entry) (vs : List Value) → i < length params → x ≡ get_or params i x
+    → held_then es (parameters (drop i params) vs) ≡ names_after x (drop (i + 1) params) es vs
+param_step params i x es vs h e = ap (λ l. held_then es (parameters l vs)) (drop_next params i x h e) ∙ step_by x (drop (i + 1) params) es vs
