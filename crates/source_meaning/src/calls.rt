@@ -72,7 +72,8 @@ impl<'m, F: Fn(Global, &Prepared<'_>, u64, u32, &mut State, &[Consumer<'_>], Tas
         let outer = swap_names(state, names);
         let flow = self.deeper(state, &[], Task::Enter(called.scope(), &called.known.function.body))?;
         let _ = swap_names(state, outer);
-        result_of(self.alloc, called.known, flow)
+        let v = result_of(self.alloc, called.known, flow)?;
+        Ok(v)
     }
 
     /// A call of a function that is no generator.
