@@ -1,7 +1,7 @@
 -- The equations of the walks over bodies, one for each form of a statement.
 use Rattle.std.proofs.Common.{◌≡◌, Bool, ◌||◌, List, [], ◌∷◌, ◌++◌, map, Option, refl, sym, ap, ◌∙◌}
 use Rattle.std.specs.List.{flat_map, list_any}
-use Rattle.std.proofs.lemmas.List.{append-nil, append_assoc}
+use Rattle.std.proofs.lemmas.List.{append-nil, append_assoc, map-append}
 use Rattle.source_trees.specs.declared.node.Node.{Node}
 use Rattle.source_trees.specs.declared.node.Name.{Name}
 use Rattle.source_trees.specs.declared.operator.BinaryOp.{BinaryOp}
@@ -216,3 +216,5 @@ module _ (is : Stmt-F Bool Bool Bool → Bool) where
   some_Par n settings l = ap (has_some is) (sym (stmt.rolls-Par n settings l)) ∙ fold-roll-Stmt Bool Bool Bool (some_step is) (some_in_arm is) (some_in_loop is) (Stmt-F.Par n settings l) ∙ some_loop_is l
 
 pub ruleset body_rules = (assigned_Pass, assigned_Break, assigned_Continue, assigned_Return, assigned_Yield, assigned_Raise, assigned_Assert, assigned_Annotated, assigned_Assign, assigned_Update, assigned_Evaluate, assigned_Print, assigned_Pipeline, assigned_If, assigned_While, assigned_For, assigned_Par, some_Pass, some_Break, some_Continue, some_Return, some_Yield, some_Raise, some_Assert, some_Annotated, some_Assign, some_Update, some_Evaluate, some_Print, some_Pipeline, some_If, some_While, some_For, some_Par, append-nil, append_assoc)
+
+pub ruleset list_rules = (append-nil, append_assoc, map-append)

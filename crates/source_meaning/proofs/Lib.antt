@@ -14,3 +14,4 @@ pub mod Held
 pub mod Rest
 pub mod Left
 pub mod Parts
+pub mod NoteEquations

@@ -1,5 +1,5 @@
 -- What a region is made of when it begins: its private names, the captured names, which are read then, the lists that it lends, and the instances that are its targets. All is read from the tree; no type takes part.
-use Rattle.std.specs.Prelude.{ℕ, zero, suc, Bool, true, false, not, ◌&&◌, ◌||◌, if◌then◌else◌, List, [], ◌∷◌, ◌++◌, length, map, Option, Some}
+use Rattle.std.specs.Prelude.{ℕ, zero, suc, Bool, true, false, not, ◌&&◌, ◌||◌, if◌then◌else◌, List, [], ◌∷◌, ◌++◌, length, map, Option, Some, None}
 use Rattle.std.specs.List.{flat_map, filter, list_any}
 use Rattle.codon_base.specs.declared.value.Ref.{Ref}
 use Rattle.codon_base.specs.declared.value.Value.{Value, Value-F, out-Value}
@@ -14,7 +14,7 @@ use Rattle.source_meaning.specs.State.{Spelling, same, is_among}
 use Rattle.source_meaning.specs.Outcome.{Run, ◌>>=◌, pure, look}
 use Rattle.source_meaning.specs.Bodies.{assigned, assigned_outside, loop_names}
 use Rattle.source_meaning.specs.Mentions.{but_of, Note, Calls, CallsMethod, notes_of_body, mentioned, written_places}
-use Rattle.source_meaning.specs.Program.{Program, Scope, function_scope, is_variable, methods_of, initializer_name}
+use Rattle.source_meaning.specs.Program.{Program, Scope, Callable, function_scope, is_variable, initializer_name}
 use Rattle.source_meaning.specs.Task.{Region}
 use Rattle.source_meaning.specs.Variables.{read_name}
 
@@ -30,11 +30,6 @@ body_scope scope names body = record scope { fixed = scope.fixed ++ loop_names n
 
 -- ---- the reach
 
--- a body of the module that may be called, and by which notes it is
-pub record Callable : Type 0 where
-  pub function : Function
-  pub is_called_by : Note → Bool
-
 abbrev pub calls_name : Spelling → Note → Bool
 calls_name name (Calls other) = same name other
 calls_name name _ = false
@@ -43,40 +38,38 @@ abbrev pub calls_method : Spelling → Note → Bool
 calls_method name (CallsMethod other) = same name other
 calls_method name _ = false
 
-abbrev pub callable_function : Function → Callable
-callable_function f = record { function = f; is_called_by = calls_name f.name.spelling }
+-- a call by name calls that function, or the `__init__` of that class; a call of a method calls each method of that name
+abbrev pub calls_of_class : Option Spelling → Spelling → Note → Bool
+calls_of_class None name note = calls_name name note
+calls_of_class (Some class) name note = calls_method name note || (same name initializer_name && calls_name class note)
 
--- a call of a class calls its `__init__`
-abbrev pub callable_method : Class → Function → Callable
-callable_method c f = record {
-  function = f;
-  is_called_by = λ note. calls_method f.name.spelling note || (same f.name.spelling initializer_name && calls_name c.name.spelling note);
-}
-
-abbrev pub callables : Program → List Callable
-callables program = map callable_function program.functions ++ flat_map (λ c. map (callable_method c) (methods_of c)) program.classes
+abbrev pub is_called_by : Callable → Note → Bool
+is_called_by callable = calls_of_class callable.class_name callable.function.name.spelling
 
 abbrev pub called_by : List Note → List Callable → List Callable
-called_by notes = filter (λ callable. list_any callable.is_called_by notes)
+called_by notes = filter (λ callable. list_any (is_called_by callable) notes)
 
 abbrev pub notes_of_reached : List Callable → List Note
 notes_of_reached = flat_map (λ callable. notes_of_body callable.function.body)
 
 -- what notes call, directly or through at most n others
 unfoldable pub reached_within : Program → List Note → ℕ → List Callable
-reached_within program notes zero = called_by notes (callables program)
-reached_within program notes (suc n) = called_by (notes ++ notes_of_reached (reached_within program notes n)) (callables program)
+reached_within program notes zero = called_by notes program.callables
+reached_within program notes (suc n) = called_by (notes ++ notes_of_reached (reached_within program notes n)) program.callables
 
 -- what notes call, directly or through others
 abbrev pub reached : Program → List Note → List Callable
-reached program notes = reached_within program notes (length (callables program))
+reached program notes = reached_within program notes (length program.callables)
 
 -- ---- captured names
 
+abbrev pub each_new : List Spelling → List Spelling → List Spelling
+each_new before [] = []
+each_new before (name ∷ more) = if is_among name before then each_new before more else name ∷ each_new (before ++ name ∷ []) more
+
 -- each name once, where it comes first
 abbrev pub each_once : List Spelling → List Spelling
-each_once [] = []
-each_once (name ∷ more) = name ∷ filter (λ other. not (same name other)) (each_once more)
+each_once = each_new []
 
 -- the notes of a function but for its own names
 abbrev pub notes_outside : Callable → List Note

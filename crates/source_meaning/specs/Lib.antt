@@ -26,3 +26,5 @@ pub mod Callees
 pub mod Collected
 pub mod Flows
 pub mod Frames
+pub mod Noted
+pub mod Reaching

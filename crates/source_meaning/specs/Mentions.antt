@@ -1,8 +1,7 @@
--- What the text of a body speaks of: the variables that it mentions, what it calls, and the lists whose places it assigns by name.
+-- What the text of a body speaks of: the variables that it mentions, what it calls, and the lists whose places it assigns by name, in the order of the text, which is the order of its nodes.
 -- The names of a comprehension and of a parallel loop are its own, so mentions of them inside are none of the text's (the Python reference, 6.2.4).
-use Rattle.std.specs.Prelude.{ℕ, Bool, false, not, if◌then◌else◌, nat_le, List, [], ◌∷◌, ◌++◌, map, Option, Some, None}
+use Rattle.std.specs.Prelude.{ℕ, Bool, false, not, List, [], ◌∷◌, ◌++◌, map, Option, Some, None}
 use Rattle.std.specs.List.{flat_map, filter}
-use Rattle.source_trees.specs.declared.node.Node.{Node}
 use Rattle.source_trees.specs.declared.node.Name.{Name}
 use Rattle.source_trees.specs.declared.expression.Expr.{Expr, Expr-F, out-Expr}
 use Rattle.source_trees.specs.declared.expression.Expr.TheOpen.{Comparison-F}
@@ -26,16 +25,16 @@ use Rattle.source_trees.specs.declared.pipeline.Stage.{Stage}
 use Rattle.source_meaning.specs.State.{Spelling, is_among}
 use Rattle.source_meaning.specs.Bodies.{loop_names}
 
--- a variable at the node of that number, a call or a stage by name, a call of a method, an assignment to a place of what a name holds
+-- a variable, a call or a stage by name, a call of a method, an assignment to a place of what a name holds
 pub data Note : Type 0 where
-  Mentions : ℕ → Spelling → Note
+  Mentions : Spelling → Note
   Calls : Spelling → Note
   CallsMethod : Spelling → Note
   WritesPlace : Spelling → Note
 
 -- whether a note speaks of one of these variables
 abbrev pub speaks_of : List Spelling → Note → Bool
-speaks_of own (Mentions n name) = is_among name own
+speaks_of own (Mentions name) = is_among name own
 speaks_of own (WritesPlace name) = is_among name own
 speaks_of own _ = false
 
@@ -43,8 +42,8 @@ speaks_of own _ = false
 abbrev pub but_of : List Spelling → List Note → List Note
 but_of own = filter (λ note. not (speaks_of own note))
 
-abbrev pub mention : Node → Spelling → List Note
-mention n name = Mentions n.id.0 name ∷ []
+abbrev pub mention : Spelling → List Note
+mention name = Mentions name ∷ []
 
 abbrev pub optional : Option (List Note) → List Note
 optional None = []
@@ -56,7 +55,7 @@ all_of = flat_map (λ notes. notes)
 -- ---- expressions
 
 abbrev pub expr_step : Expr-F (List Note) (List Note) → List Note
-expr_step (Expr-F.Name n name) = mention n name
+expr_step (Expr-F.Name n name) = mention name
 expr_step (Expr-F.Bracketed n inner) = inner
 expr_step (Expr-F.Tuple n commas items) = all_of items
 expr_step (Expr-F.List n items) = all_of items
@@ -96,7 +95,7 @@ name_in (Expr-F.Name n name) = WritesPlace name ∷ []
 name_in _ = []
 
 abbrev pub notes_of_target : Target → List Note
-notes_of_target (target.Name n name) = mention n name
+notes_of_target (target.Name n name) = mention name
 notes_of_target (target.Index n object index) = name_in (out-Expr object) ++ notes_of_expr object ++ notes_of_expr index
 notes_of_target (target.Field n object name) = notes_of_expr object
 
@@ -105,7 +104,7 @@ notes_of_targets (targets.One only) = notes_of_target only
 notes_of_targets (targets.Several n all) = flat_map notes_of_target all
 
 abbrev pub mention_name : Name → List Note
-mention_name name = mention name.node name.spelling
+mention_name name = mention name.spelling
 
 abbrev pub notes_of_loop_names : LoopNames → List Note
 notes_of_loop_names (names.One name) = mention_name name
@@ -174,27 +173,15 @@ notes_of_stmt = fold-Stmt (List Note) (List Note) LoopNotes stmt_step arm_step f
 abbrev pub notes_of_body : List Stmt → List Note
 notes_of_body = flat_map notes_of_stmt
 
--- ---- mentions in node order
+-- ---- what notes tell
 
-pub record Mention : Type 0 where
-  pub number : ℕ
-  pub name : Spelling
-
-abbrev pub mention_in : Note → List Mention
-mention_in (Mentions n name) = (record { number = n; name = name }) ∷ []
+abbrev pub mention_in : Note → List Spelling
+mention_in (Mentions name) = name ∷ []
 mention_in _ = []
 
-abbrev pub placed_in : Mention → List Mention → List Mention
-placed_in m [] = m ∷ []
-placed_in m (other ∷ more) = if nat_le m.number other.number then m ∷ other ∷ more else other ∷ placed_in m more
-
-abbrev pub in_node_order : List Mention → List Mention
-in_node_order [] = []
-in_node_order (m ∷ more) = placed_in m (in_node_order more)
-
--- the names that notes mention, in node order
+-- the names that notes mention
 abbrev pub mentioned : List Note → List Spelling
-mentioned notes = map (λ m. m.name) (in_node_order (flat_map mention_in notes))
+mentioned = flat_map mention_in
 
 abbrev pub written_in : Note → List Spelling
 written_in (WritesPlace name) = name ∷ []

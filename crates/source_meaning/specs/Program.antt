@@ -14,10 +14,16 @@ use Rattle.source_trees.specs.Prelude.{prelude}
 use Rattle.source_meaning.specs.State.{Spelling, same, is_among}
 use Rattle.source_meaning.specs.Bodies.{assigned, assigned_outside}
 
--- the functions and classes in order, the module's variables, and the functions of the prelude
+-- a function, or a method with the name of its class
+pub record Callable : Type 0 where
+  pub function : Function
+  pub class_name : Option Spelling
+
+-- the functions and classes in order, the functions and methods in the order of the text, the module's variables, and the functions of the prelude
 pub record Program : Type 0 where
   pub functions : List Function
   pub classes : List Class
+  pub callables : List Callable
   pub variables : List Spelling
   pub prelude : List Function
 
@@ -26,6 +32,23 @@ pub record Scope : Type 0 where
   pub locals : List Spelling
   pub fixed : List Spelling
   pub in_prelude : Bool
+
+-- ---- classes
+
+abbrev pub field_in : Member → List Spelling
+field_in (member.Field n name annotation) = name.spelling ∷ []
+field_in _ = []
+
+abbrev pub method_in : Member → List Function
+method_in (member.Method f) = f ∷ []
+method_in _ = []
+
+-- the fields of a class in order
+abbrev pub fields_of : Class → List Spelling
+fields_of c = flat_map field_in c.members
+
+abbrev pub methods_of : Class → List Function
+methods_of c = flat_map method_in c.members
 
 -- ---- modules
 
@@ -50,8 +73,19 @@ classes_of m = flat_map class_in m.items
 abbrev pub statements_of : Module → List Stmt
 statements_of m = flat_map statement_in m.items
 
+abbrev pub callables_in_class : Class → List Callable
+callables_in_class c = map (λ f. record { function = f; class_name = Some c.name.spelling }) (methods_of c)
+
+abbrev pub callables_in : Item → List Callable
+callables_in (item.Function f) = (record { function = f; class_name = None }) ∷ []
+callables_in (item.Class c) = callables_in_class c
+callables_in (item.Stmt s) = []
+
+abbrev pub callables_of : Module → List Callable
+callables_of m = flat_map callables_in m.items
+
 abbrev pub program_of : Module → Program
-program_of m = record { functions = functions_of m; classes = classes_of m; variables = assigned (statements_of m); prelude = functions_of prelude }
+program_of m = record { functions = functions_of m; classes = classes_of m; callables = callables_of m; variables = assigned (statements_of m); prelude = functions_of prelude }
 
 -- the module's statements have variables of the module and none of their own
 abbrev pub module_scope : Module → Scope
@@ -71,22 +105,7 @@ function_scope in_prelude f = record {
 abbrev pub with_locals : List Spelling → Scope → Scope
 with_locals names scope = record scope { locals = names ++ scope.locals }
 
--- ---- classes
-
-abbrev pub field_in : Member → List Spelling
-field_in (member.Field n name annotation) = name.spelling ∷ []
-field_in _ = []
-
-abbrev pub method_in : Member → List Function
-method_in (member.Method f) = f ∷ []
-method_in _ = []
-
--- the fields of a class in order
-abbrev pub fields_of : Class → List Spelling
-fields_of c = flat_map field_in c.members
-
-abbrev pub methods_of : Class → List Function
-methods_of c = flat_map method_in c.members
+-- ---- names among others
 
 abbrev pub function_named : Spelling → List Function → Option Function
 function_named name [] = None

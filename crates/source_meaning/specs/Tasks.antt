@@ -14,6 +14,7 @@ use Rattle.source_meaning.specs.declared.state.State.{State}
 use Rattle.source_meaning.specs.declared.state.Stop.{Stop}
 use Rattle.source_meaning.specs.declared.flow.Flow.{Flow}
 use Rattle.source_meaning.specs.declared.prepared.Called.{Called}
+use Rattle.source_meaning.specs.declared.prepared.Callable.{Callable}
 use Rattle.source_meaning.specs.declared.prepared.Prepared.{Prepared}
 use Rattle.source_meaning.specs.declared.task.Region.{Region}
 use Rattle.source_meaning.specs.declared.task.Consumer.{Consumer}
@@ -26,10 +27,18 @@ use Rattle.source_meaning.specs.declared.task.Task.TheVariants as one
 abbrev pub known_of : Called → program.Known
 known_of c = record { function = c.known.now.function.now; in_prelude = c.in_prelude }
 
+abbrev pub class_named : Option (Bor meaning.Spelling) → Option meaning.Spelling
+class_named None = None
+class_named (Some name) = Some name.now
+
+abbrev pub callable_of : Callable → program.Callable
+callable_of c = record { function = c.function.now; class_name = class_named c.class_name }
+
 unfoldable pub program_of : Prepared → program.Program
 program_of p = record {
   functions = map (λ k. k.function.now) p.functions.items;
   classes = map (λ c. c.class.now) p.classes.items;
+  callables = map callable_of p.callables.items;
   variables = p.variables;
   prelude = map (λ k. k.function.now) p.prelude.items;
 }

@@ -2,7 +2,7 @@
 
 #![tactic(auto, using(crate::proofs::BodyEquations::body_rules))]
 
-ghost use Rattle.std.specs.Prelude.{◌≡◌, ◌++◌, OnOk};
+ghost use Rattle.std.specs.Prelude.{◌≡◌, ◌++◌, ◌∷◌, [], map, OnOk};
 ghost use Rattle.std.specs.List.{flat_map, list_any};
 ghost use Rattle.source_meaning.specs.Bodies.{loop_names, target_names, targets_names, annotated_name, assigned_by, has_some, yields, gives_value};
 ghost use Rattle.source_meaning.specs.Walked.{kept_if, assigned_arm, assigned_for, test_of, some_arm, some_for};
@@ -28,10 +28,10 @@ pub(crate) fn push_name(alloc: Global, name: &Spelling, names: &mut Items<Spelli
 }
 
 /// Puts the names of a loop at the end.
-pub(crate) fn push_loop_names(alloc: Global, loop_names: &LoopNames, names: &mut Items<Spelling>) -> Result<(), Memory>
-    ensures { OnOk result (names.new ≡ names.old ++ loop_names loop_names.now) }
+pub(crate) fn push_loop_names(alloc: Global, set: &LoopNames, names: &mut Items<Spelling>) -> Result<(), Memory>
+    ensures { OnOk result (names.new ≡ names.old ++ loop_names set.now) }
 {
-    match loop_names {
+    match set {
         LoopNames::One(only) => push_name(alloc, &only.spelling, names),
         LoopNames::Several(all) => push_all(alloc, all.as_slice(), names),
     }
@@ -85,7 +85,7 @@ fn push_annotated(alloc: Global, name: &Name, value: &Option<Expr>, names: &mut 
 
 /// Puts the names at the end that a statement assigns, those of parallel loops only where they are asked for.
 #[cycle(assigned)]
-fn assigned_stmt(alloc: Global, s: &Stmt, all: bool, names: &mut Items<Spelling>) -> Result<(), Memory>
+pub(crate) fn assigned_stmt(alloc: Global, s: &Stmt, all: bool, names: &mut Items<Spelling>) -> Result<(), Memory>
     ensures { OnOk result (names.new ≡ names.old ++ assigned_by (kept_if all) s.now) }
 {
     match s {
@@ -105,7 +105,16 @@ fn assigned_stmt(alloc: Global, s: &Stmt, all: bool, names: &mut Items<Spelling>
                 Ok(())
             }
         }
-        _ => Ok(()),
+        Stmt::Pass(_) => Ok(()),
+        Stmt::Break(_) => Ok(()),
+        Stmt::Continue(_) => Ok(()),
+        Stmt::Return(_, _) => Ok(()),
+        Stmt::Yield(_, _) => Ok(()),
+        Stmt::Raise(_, _, _) => Ok(()),
+        Stmt::Assert(_, _, _) => Ok(()),
+        Stmt::Evaluate(_, _) => Ok(()),
+        Stmt::Print(_, _) => Ok(()),
+        Stmt::Pipeline(_, _, _) => Ok(()),
     }
 }
 
@@ -152,7 +161,17 @@ fn has_some(s: &Stmt, sought: Sought) -> bool
         Stmt::While(_, _, body) => some_in_body(body.as_slice(), sought),
         Stmt::For(l) => some_in_loop(l, sought),
         Stmt::Par(_, _, l) => some_in_loop(l, sought),
-        _ => false,
+        Stmt::Pass(_) => false,
+        Stmt::Break(_) => false,
+        Stmt::Continue(_) => false,
+        Stmt::Raise(_, _, _) => false,
+        Stmt::Assert(_, _, _) => false,
+        Stmt::Annotated(_, _, _, _) => false,
+        Stmt::Assign(_, _, _) => false,
+        Stmt::Update(_, _, _, _) => false,
+        Stmt::Evaluate(_, _) => false,
+        Stmt::Print(_, _) => false,
+        Stmt::Pipeline(_, _, _) => false,
     }
 }
 

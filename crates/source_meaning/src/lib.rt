@@ -2,14 +2,17 @@
 #![tactic(auto)]
 
 mod bodies;
+mod captures;
 mod callee;
 mod expressions;
 mod flow;
 mod frames;
 mod law;
+mod mentions;
 mod names;
 mod objects;
 mod operations;
+mod prepare;
 mod prepared;
 mod runner;
 mod scope;

@@ -1,6 +1,8 @@
-ghost use Rattle.std.specs.Prelude.{◌≡◌, ◌<◌, ◌^◌, false, length};
+ghost use Rattle.std.specs.Prelude.{◌≡◌, ◌<◌, ◌^◌, false, length, map};
+ghost use Rattle.std.specs.Coded.{Coded-set, coded_list};
+ghost use Rattle.source_trees.specs.contracts.item.Function as item_function;
 ghost use Rattle.source_meaning.specs.Bodies as bodies;
-ghost use Rattle.source_meaning.specs.Program.{function_scope, fields_of};
+ghost use Rattle.source_meaning.specs.Program.{function_scope, fields_of, methods_of};
 
 use codon_base::Spelling;
 use source_trees::{Class, Function};
@@ -33,7 +35,15 @@ pub(crate) struct KnownClass<'m> {
     pub(crate) class: &'m Class,
     pub(crate) methods: Vec<Known<'m>>,
     pub(crate) fields: Items<Spelling>,
+    ghost has_methods: { map (λ k. k.function.now) methods.items ≡ methods_of class.now } by { Coded-set (coded_list item_function.the_row.coded) (map (λ k. k.function.now) methods.items) (methods_of class.now) },
     ghost has_fields: { fields ≡ fields_of class.now },
+}
+
+/// A function, or a method with the name of its class.
+#[derive(Clone, Copy)]
+pub(crate) struct Callable<'m> {
+    pub(crate) function: &'m Function,
+    pub(crate) class_name: Option<&'m Spelling>,
 }
 
 /// A module as the run of its statements sees it, with the prelude.
@@ -41,6 +51,8 @@ pub(crate) struct KnownClass<'m> {
 pub(crate) struct Prepared<'m> {
     pub(crate) functions: Vec<Known<'m>>,
     pub(crate) classes: Vec<KnownClass<'m>>,
+    /// The functions and methods in the order of the text.
+    pub(crate) callables: Vec<Callable<'m>>,
     pub(crate) variables: Items<Spelling>,
     pub(crate) prelude: Vec<Known<'m>>,
     ghost few_classes: { length classes.items < 2 ^ 32 },
