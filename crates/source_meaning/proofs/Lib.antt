@@ -15,3 +15,4 @@ pub mod Rest
 pub mod Left
 pub mod Parts
 pub mod NoteEquations
+pub mod Rounds

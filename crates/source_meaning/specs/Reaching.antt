@@ -1,5 +1,5 @@
 -- What the interpreter's reach and captured values stand for among the definitions.
-use Rattle.std.specs.Prelude.{ℕ, zero, suc, Bool, true, false, List, [], ◌∷◌, ◌++◌, map}
+use Rattle.std.specs.Prelude.{ℕ, zero, suc, Bool, true, false, List, [], ◌∷◌, ◌++◌, map, slice_get, Option, Some, None}
 use Rattle.std.specs.List.{list_any}
 use Rattle.source_meaning.specs.Mentions as mentions
 use Rattle.source_meaning.specs.Program as program
@@ -13,6 +13,14 @@ picked [] flags = []
 picked (x ∷ xs) [] = []
 picked (x ∷ xs) (true ∷ flags) = x ∷ picked xs flags
 picked (x ∷ xs) (false ∷ flags) = picked xs flags
+
+-- whether the one at a place is flagged
+abbrev pub flag_of : Option Bool → Bool
+flag_of (Some flag) = flag
+flag_of None = false
+
+abbrev pub flagged : List Bool → ℕ → Bool
+flagged flags place = flag_of (slice_get flags place)
 
 -- which of them notes call
 abbrev pub flags_of : List mentions.Note → List program.Callable → List Bool

@@ -5,21 +5,22 @@
 ghost use Rattle.std.specs.Prelude.{◌≡◌, ◌++◌, ◌∷◌, [], ◌&&◌, not, length, map, drop, true, false, if◌then◌else◌, OnOk, IfOk, take};
 ghost use Rattle.std.specs.List.{flat_map, filter, list_any};
 ghost use Rattle.codon_base.specs.Levels.{object_at};
+ghost use Rattle.codon_base.specs.declared.value.Value.{out-Value};
 ghost use Rattle.source_meaning.specs.State.{is_among};
 ghost use Rattle.source_meaning.specs.Captures as spec;
 ghost use Rattle.source_meaning.specs.Mentions as mentions;
 ghost use Rattle.source_meaning.specs.Noted.{note_of, noted};
-ghost use Rattle.source_meaning.specs.Program.{is_variable, function_scope};
+ghost use Rattle.source_meaning.specs.Program.{is_variable};
 ghost use Rattle.source_meaning.specs.Scopes.{scope_of};
 ghost use Rattle.source_meaning.specs.Seen.{seen, TellsBy};
 ghost use Rattle.source_meaning.specs.Tasks.{program_of, callable_of, region_of};
-ghost use Rattle.source_meaning.specs.Reaching.{picked, flags_of, flags_within, captured_of};
+ghost use Rattle.source_meaning.specs.Reaching.{captured_of};
 
 use crate::bodies::{assigned_body, push_loop_names, push_name};
-use crate::mentions::{Note, note_body, note_stages, push_others};
-use crate::names::{is_among, same};
-use crate::prepare::push_locals;
-use crate::prepared::{Callable, Prepared};
+use crate::mentions::{Note, note_body, note_stages};
+use crate::names::is_among;
+use crate::prepared::Prepared;
+use crate::reach::{push_outside, reached_flags};
 use crate::scope::Scope;
 use crate::state::{State, Stop};
 use crate::task::Region;
@@ -87,128 +88,33 @@ fn own_of(alloc: Global, scope: &Scope<'_>, own: &[Spelling], local: bool) -> Re
     Ok(names)
 }
 
-// ---- the reach
-
-/// Whether a note calls a function or a method.
-fn is_called_by(callable: &Callable<'_>, note: Note<'_>) -> bool
-    ensures { result ≡ spec.is_called_by (callable_of callable.now) (note_of note.entry) }
-{
-    let name = &callable.function.name.spelling;
-    match callable.class_name {
-        None => calls_name(name, note),
-        Some(class) => {
-            calls_method(name, note) || (name.as_slice() == b"__init__".as_slice() && calls_name(class, note))
-        }
-    }
-}
-
-fn calls_name(name: &Spelling, note: Note<'_>) -> bool
-    ensures { result ≡ spec.calls_name name.now (note_of note.entry) }
-{
-    match note {
-        Note::Calls(other) => same(name, other),
-        Note::Mentions(_) => false,
-        Note::CallsMethod(_) => false,
-        Note::WritesPlace(_) => false,
-    }
-}
-
-fn calls_method(name: &Spelling, note: Note<'_>) -> bool
-    ensures { result ≡ spec.calls_method name.now (note_of note.entry) }
-{
-    match note {
-        Note::CallsMethod(other) => same(name, other),
-        Note::Mentions(_) => false,
-        Note::Calls(_) => false,
-        Note::WritesPlace(_) => false,
-    }
-}
-
-/// Which functions and methods notes call.
-fn called_flags(alloc: Global, callables: &[Callable<'_>], notes: &[Note<'_>]) -> Result<Vec<bool>, Memory>
-    ensures { IfOk result (λ flags. flags.items ≡ flags_of (noted notes.now) (map callable_of callables.now)) }
-{
-    let mut flags = Vec::new(alloc);
-    'callables: for callable in callables {
-        flags.push(notes.iter().any(|note| is_called_by(callable, *note)))?;
-    }
-    Ok(flags)
-}
-
-/// Puts the notes of the flagged functions and methods at the end.
-fn push_reached<'m>(alloc: Global, callables: &[Callable<'m>], flags: &[bool], notes: &mut Vec<Note<'m>>) -> Result<(), Memory>
-    ensures { OnOk result (noted notes.new.items ≡ noted notes.old.items ++ spec.notes_of_reached (picked (map callable_of callables.now) flags.now)) }
-{
-    let mut place = 0;
-    'callables: for callable in callables {
-        if flags.get(place).copied() == Some(true) {
-            note_body(alloc, callable.function.body.as_slice(), notes)?;
-        }
-        place += 1;
-    }
-    Ok(())
-}
-
-/// Puts the notes of the flagged functions and methods at the end, but for their own names.
-fn push_outside<'m>(alloc: Global, callables: &[Callable<'m>], flags: &[bool], notes: &mut Vec<Note<'m>>) -> Result<(), Memory>
-    ensures { OnOk result (noted notes.new.items ≡ noted notes.old.items ++ flat_map spec.notes_outside (picked (map callable_of callables.now) flags.now)) }
-{
-    let mut place = 0;
-    'callables: for callable in callables {
-        if flags.get(place).copied() == Some(true) {
-            push_outside_of(alloc, callable, notes)?;
-        }
-        place += 1;
-    }
-    Ok(())
-}
-
-fn push_outside_of<'m>(alloc: Global, callable: &Callable<'m>, notes: &mut Vec<Note<'m>>) -> Result<(), Memory>
-    ensures { OnOk result (noted notes.new.items ≡ noted notes.old.items ++ spec.notes_outside (callable_of callable.now)) }
-{
-    let mut inner = Vec::new(alloc);
-    note_body(alloc, callable.function.body.as_slice(), &mut inner)?;
-    let mut locals = Items::new(alloc);
-    push_locals(alloc, callable.function, true, &mut locals)?;
-    push_others(locals.as_slice(), &inner, notes)
-}
-
-/// The next round of the reach: what notes call, and what is called there.
-fn next_flags<'m>(alloc: Global, callables: &[Callable<'m>], notes: &[Note<'m>], flags: &[bool]) -> Result<Vec<bool>, Memory>
-    ensures { IfOk result (λ next. next.items ≡ flags_of (noted notes.now ++ spec.notes_of_reached (picked (map callable_of callables.now) flags.now)) (map callable_of callables.now)) }
-{
-    let mut all = Vec::from_slice(alloc, notes)?;
-    push_reached(alloc, callables, flags, &mut all)?;
-    called_flags(alloc, callables, &all)
-}
-
-/// Which functions and methods notes call, directly or through others. Once a round adds none, no later one does.
-#[tactic(auto, unfolding(crate::specs::Reaching::flags_within))]
-fn reached_flags<'m>(alloc: Global, callables: &[Callable<'m>], notes: &[Note<'m>]) -> Result<Vec<bool>, Memory>
-    ensures { IfOk result (λ flags. flags.items ≡ flags_within (map callable_of callables.now) (noted notes.now) (length callables.now)) }
-{
-    let mut flags = called_flags(alloc, callables, notes)?;
-    'rounds: for round in 0..callables.len() {
-        let next = next_flags(alloc, callables, notes, &flags)?;
-        if next.as_slice() == flags.as_slice() {
-            return Ok(flags);
-        }
-        flags = next;
-    }
-    Ok(flags)
-}
-
 // ---- captured names
+
+/// Puts a name at the end, where it is not among the names yet.
+fn push_new(alloc: Global, name: &Spelling, names: &mut Items<Spelling>) -> Result<(), Memory>
+    ensures { OnOk result (names.new ≡ (if is_among name.now names.old then names.old else names.old ++ name.now ∷ [])) }
+{
+    if is_among(name, names.as_slice()) {
+        Ok(())
+    } else {
+        push_name(alloc, name, names)
+    }
+}
 
 /// Puts the variables round a text at the end that its notes mention, each once, but for names of its own.
 fn push_outer_names(alloc: Global, program: &Prepared<'_>, scope: &Scope<'_>, own: &[Spelling], notes: &[Note<'_>], names: &mut Items<Spelling>) -> Result<(), Memory>
     ensures { OnOk result (names.new ≡ names.old ++ spec.each_new names.old (filter (λ name. is_variable (program_of program.now) (scope_of scope.now) name && not (is_among name own.now)) (mentions.mentioned (noted notes.now)))) }
 {
     'notes: for note in notes {
-        if let Note::Mentions(name) = note {
-            if is_outer(program, scope, own, name) && !is_among(name, names.as_slice()) {
-                push_name(alloc, name, names)?;
+        match note {
+            Note::Mentions(name) => {
+                if is_outer(program, scope, own, name) {
+                    push_new(alloc, name, names)?;
+                }
             }
+            Note::Calls(_) => {}
+            Note::CallsMethod(_) => {}
+            Note::WritesPlace(_) => {}
         }
     }
     Ok(())
@@ -226,10 +132,15 @@ fn push_module_names(alloc: Global, program: &Prepared<'_>, scope: &Scope<'_>, o
     ensures { OnOk result (names.new ≡ names.old ++ spec.each_new names.old (filter (λ name. is_among name (program_of program.now).variables && not (is_among name outer.now && not (is_among name (scope_of scope.now).locals))) (mentions.mentioned (noted notes.now)))) }
 {
     'notes: for note in notes {
-        if let Note::Mentions(name) = note {
-            if is_unread(program, scope, outer, name) && !is_among(name, names.as_slice()) {
-                push_name(alloc, name, names)?;
+        match note {
+            Note::Mentions(name) => {
+                if is_unread(program, scope, outer, name) {
+                    push_new(alloc, name, names)?;
+                }
             }
+            Note::Calls(_) => {}
+            Note::CallsMethod(_) => {}
+            Note::WritesPlace(_) => {}
         }
     }
     Ok(())
@@ -248,8 +159,11 @@ fn written_places(alloc: Global, notes: &[Note<'_>]) -> Result<Items<Spelling>, 
 {
     let mut names = Items::new(alloc);
     'notes: for note in notes {
-        if let Note::WritesPlace(name) = note {
-            push_name(alloc, name, &mut names)?;
+        match note {
+            Note::WritesPlace(name) => push_name(alloc, name, &mut names)?,
+            Note::Mentions(_) => {}
+            Note::Calls(_) => {}
+            Note::CallsMethod(_) => {}
         }
     }
     Ok(names)
@@ -280,13 +194,30 @@ fn push_lists(heap: &Heap, captured: &[Captured<'_>], lent: &[Spelling], refs: &
     ensures { OnOk result (refs.new ≡ refs.old ++ spec.held spec.is_list heap.now (filter (λ each. is_among each.name lent.now) (map captured_of captured.now))) }
 {
     'captured: for each in captured {
-        if let Value::Ref(at) = &each.value {
-            if is_among(each.name, lent) && is_list(heap, *at) {
-                refs.push(*at)?;
-            }
+        if is_among(each.name, lent) {
+            push_list(heap, &each.value, refs)?;
         }
     }
     Ok(())
+}
+
+fn push_list(heap: &Heap, value: &Value, refs: &mut Items<Ref>) -> Result<(), Memory>
+    ensures { OnOk result (refs.new ≡ refs.old ++ filter (λ at. spec.is_list (object_at heap.now at)) (spec.address_in (out-Value value.now))) }
+{
+    match value {
+        Value::Ref(at) => {
+            if is_list(heap, *at) {
+                refs.push(*at)?;
+            }
+            Ok(())
+        }
+        Value::Int(_) => Ok(()),
+        Value::Bool(_) => Ok(()),
+        Value::Text(_) => Ok(()),
+        Value::Tuple(_) => Ok(()),
+        Value::Unit => Ok(()),
+        Value::Unset => Ok(()),
+    }
 }
 
 fn is_list(heap: &Heap, at: Ref) -> bool
@@ -304,13 +235,28 @@ fn push_instances(heap: &Heap, captured: &[Captured<'_>], refs: &mut Items<Ref>)
     ensures { OnOk result (refs.new ≡ refs.old ++ spec.held spec.is_instance heap.now (map captured_of captured.now)) }
 {
     'captured: for each in captured {
-        if let Value::Ref(at) = &each.value {
+        push_instance(heap, &each.value, refs)?;
+    }
+    Ok(())
+}
+
+fn push_instance(heap: &Heap, value: &Value, refs: &mut Items<Ref>) -> Result<(), Memory>
+    ensures { OnOk result (refs.new ≡ refs.old ++ filter (λ at. spec.is_instance (object_at heap.now at)) (spec.address_in (out-Value value.now))) }
+{
+    match value {
+        Value::Ref(at) => {
             if is_instance(heap, *at) {
                 refs.push(*at)?;
             }
+            Ok(())
         }
+        Value::Int(_) => Ok(()),
+        Value::Bool(_) => Ok(()),
+        Value::Text(_) => Ok(()),
+        Value::Tuple(_) => Ok(()),
+        Value::Unit => Ok(()),
+        Value::Unset => Ok(()),
     }
-    Ok(())
 }
 
 fn is_instance(heap: &Heap, at: Ref) -> bool

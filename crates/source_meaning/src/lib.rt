@@ -14,6 +14,7 @@ mod objects;
 mod operations;
 mod prepare;
 mod prepared;
+mod reach;
 mod runner;
 mod scope;
 mod state;
