@@ -16,3 +16,4 @@ pub mod Left
 pub mod Parts
 pub mod NoteEquations
 pub mod Rounds
+pub mod ThreeNotes

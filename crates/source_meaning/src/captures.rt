@@ -20,7 +20,7 @@ use crate::bodies::{assigned_body, push_loop_names, push_name};
 use crate::mentions::{Note, note_body, note_stages};
 use crate::names::is_among;
 use crate::prepared::Prepared;
-use crate::reach::{push_outside, reached_flags};
+use crate::reach::{flagged_ones, push_outside, reached_flags};
 use crate::scope::Scope;
 use crate::state::{State, Stop};
 use crate::task::Region;
@@ -289,7 +289,8 @@ fn module_names(alloc: Global, program: &Prepared<'_>, scope: &Scope<'_>, outer:
 {
     let flags = reached_flags(alloc, &program.callables, notes)?;
     let mut outside = Vec::new(alloc);
-    push_outside(alloc, &program.callables, &flags, &mut outside)?;
+    let ones = flagged_ones(alloc, &program.callables, &flags)?;
+    push_outside(alloc, &ones, &mut outside)?;
     let mut names = Items::new(alloc);
     push_module_names(alloc, program, scope, outer, &outside, &mut names)?;
     Ok(names)

@@ -85,7 +85,8 @@ pub(crate) fn note_expr<'a>(alloc: Global, e: &'a Expr, notes: &mut Vec<Note<'a>
         Expr::Comprehension(_, item, names, iterable, condition) => {
             note_own(alloc, names, item.get(), notes)?;
             note_expr(alloc, iterable.get(), notes)?;
-            note_condition(alloc, names, condition, notes)
+            note_condition(alloc, names, condition, notes)?;
+            Ok(())
         }
         Expr::Conditional(_, value, condition, other) => {
             note_expr(alloc, value.get(), notes)?;
@@ -120,7 +121,8 @@ pub(crate) fn note_expr<'a>(alloc: Global, e: &'a Expr, notes: &mut Vec<Note<'a>
         Expr::Slice(_, object, from, to) => {
             note_expr(alloc, object.get(), notes)?;
             note_bound(alloc, from, notes)?;
-            note_bound(alloc, to, notes)
+            note_bound(alloc, to, notes)?;
+            Ok(())
         }
         Expr::Field(_, object, _) => note_expr(alloc, object.get(), notes),
     }

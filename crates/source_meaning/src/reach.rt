@@ -73,30 +73,38 @@ fn is_flagged(flags: &[bool], place: usize) -> bool
     }
 }
 
-/// Puts the notes of the flagged functions and methods at the end.
-fn push_reached<'m>(alloc: Global, callables: &[Callable<'m>], flags: &[bool], notes: &mut Vec<Note<'m>>) -> Result<(), Memory>
-    ensures { OnOk result (noted notes.new.items ≡ noted notes.old.items ++ spec.notes_of_reached (picked (map callable_of callables.now) flags.now)) }
+/// The flagged functions and methods.
+#[tactic(auto, using(crate::proofs::BodyEquations::list_rules, crate::proofs::Rounds::picked_next))]
+pub(crate) fn flagged_ones<'m>(alloc: Global, callables: &[Callable<'m>], flags: &[bool]) -> Result<Vec<Callable<'m>>, Memory>
+    ensures { IfOk result (λ ones. map callable_of ones.items ≡ picked (map callable_of callables.now) flags.now) }
 {
+    let mut ones = Vec::new(alloc);
     let mut place = 0;
     'callables: for callable in callables {
         if is_flagged(flags, place) {
-            note_body(alloc, callable.function.body.as_slice(), notes)?;
+            ones.push(*callable)?;
         }
         place += 1;
+    }
+    Ok(ones)
+}
+
+/// Puts the notes of functions and methods at the end.
+fn push_reached<'m>(alloc: Global, ones: &[Callable<'m>], notes: &mut Vec<Note<'m>>) -> Result<(), Memory>
+    ensures { OnOk result (noted notes.new.items ≡ noted notes.old.items ++ spec.notes_of_reached (map callable_of ones.now)) }
+{
+    'ones: for callable in ones {
+        note_body(alloc, callable.function.body.as_slice(), notes)?;
     }
     Ok(())
 }
 
-/// Puts the notes of the flagged functions and methods at the end, but for their own names.
-pub(crate) fn push_outside<'m>(alloc: Global, callables: &[Callable<'m>], flags: &[bool], notes: &mut Vec<Note<'m>>) -> Result<(), Memory>
-    ensures { OnOk result (noted notes.new.items ≡ noted notes.old.items ++ flat_map spec.notes_outside (picked (map callable_of callables.now) flags.now)) }
+/// Puts the notes of functions and methods at the end, but for their own names.
+pub(crate) fn push_outside<'m>(alloc: Global, ones: &[Callable<'m>], notes: &mut Vec<Note<'m>>) -> Result<(), Memory>
+    ensures { OnOk result (noted notes.new.items ≡ noted notes.old.items ++ flat_map spec.notes_outside (map callable_of ones.now)) }
 {
-    let mut place = 0;
-    'callables: for callable in callables {
-        if is_flagged(flags, place) {
-            push_outside_of(alloc, callable, notes)?;
-        }
-        place += 1;
+    'ones: for callable in ones {
+        push_outside_of(alloc, callable, notes)?;
     }
     Ok(())
 }
@@ -116,7 +124,8 @@ fn next_flags<'m>(alloc: Global, callables: &[Callable<'m>], notes: &[Note<'m>],
     ensures { IfOk result (λ next. next.items ≡ flags_of (noted notes.now ++ spec.notes_of_reached (picked (map callable_of callables.now) flags.now)) (map callable_of callables.now)) }
 {
     let mut all = Vec::from_slice(alloc, notes)?;
-    push_reached(alloc, callables, flags, &mut all)?;
+    let ones = flagged_ones(alloc, callables, flags)?;
+    push_reached(alloc, &ones, &mut all)?;
     called_flags(alloc, callables, &all)
 }
 
