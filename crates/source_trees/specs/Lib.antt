@@ -1,0 +1,5 @@
+pub mod Parts
+pub mod Nodes
+pub mod Heights
+pub mod Bare
+pub mod Prelude

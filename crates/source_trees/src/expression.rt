@@ -28,13 +28,7 @@ pub enum Expr {
     Tuple(Node, Commas, Items<Expr>),
     List(Node, Items<Expr>),
     /// `[item for names in iterable]`, or with `if condition`.
-    Comprehension(
-        Node,
-        Boxed<Expr>,
-        LoopNames,
-        Boxed<Expr>,
-        Option<Boxed<Expr>>,
-    ),
+    Comprehension(Node, Boxed<Expr>, LoopNames, Boxed<Expr>, Option<Boxed<Expr>>),
     /// The value, the condition and the other value of `value if condition else other`.
     Conditional(Node, Boxed<Expr>, Boxed<Expr>, Boxed<Expr>),
     /// Two operands or more.
@@ -53,12 +47,7 @@ pub enum Expr {
     /// `object[index]`.
     Index(Node, Boxed<Expr>, Boxed<Expr>),
     /// `object[from:to]`.
-    Slice(
-        Node,
-        Boxed<Expr>,
-        Option<Boxed<Expr>>,
-        Option<Boxed<Expr>>,
-    ),
+    Slice(Node, Boxed<Expr>, Option<Boxed<Expr>>, Option<Boxed<Expr>>),
     /// `object.name`.
     Field(Node, Boxed<Expr>, Spelling),
 }
