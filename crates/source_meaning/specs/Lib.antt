@@ -18,6 +18,7 @@ pub mod Statements
 pub mod Meaning
 pub mod Laws
 pub mod Scopes
+pub mod Sights
 pub mod Seen
 pub mod Tasks
 pub mod Lists

@@ -21,6 +21,7 @@ mod printing;
 mod ranges;
 mod runner;
 mod scope;
+mod sight;
 mod simple;
 mod state;
 mod statements;

@@ -1,0 +1,10 @@
+use Rattle.std.proofs.Common.{◌≡◌, drop, map}
+use Rattle.std.specs.List.{list_all}
+use Rattle.source_meaning.specs.Iterations.{is_in}
+use Rattle.source_meaning.specs.Seen.{iteration_of}
+use Rattle.source_meaning.proofs.sight.is_target.Given as goal
+
+abbrev pub invariant-above : goal.invariant-above
+invariant-above l =
+    list_all (λ iteration. is_in l.at iteration.targets) (map iteration_of (drop l.iteration-index l.iteration-items))
+    ≡ list_all (λ iteration. is_in l.at iteration.targets) (map iteration_of (drop l.at.level l.iterations))
