@@ -27,3 +27,4 @@ pub mod Frames
 pub mod Cursors
 pub mod Steps
 pub mod Targets
+pub mod Stages

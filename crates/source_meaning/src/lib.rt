@@ -15,6 +15,7 @@ mod methods;
 mod names;
 mod objects;
 mod operations;
+mod pipelines;
 mod prepared;
 mod printing;
 mod ranges;
