@@ -27,4 +27,3 @@ pub mod Frames
 pub mod Cursors
 pub mod Steps
 pub mod Targets
-pub mod Stages
