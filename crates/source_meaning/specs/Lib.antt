@@ -26,3 +26,4 @@ pub mod Callees
 pub mod Collected
 pub mod Flows
 pub mod Frames
+pub mod Inside

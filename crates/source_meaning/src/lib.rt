@@ -6,6 +6,7 @@ mod callee;
 mod expressions;
 mod flow;
 mod frames;
+mod iterations;
 mod law;
 mod names;
 mod objects;
