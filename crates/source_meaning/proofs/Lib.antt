@@ -14,3 +14,6 @@ pub mod Held
 pub mod Rest
 pub mod Left
 pub mod Parts
+pub mod Private
+mod Steady
+pub mod Iterating

@@ -9,22 +9,20 @@ use Rattle.source_meaning.specs.declared.iterations.Saved as code
 
 -- ---- iterations
 
--- what was before an iteration: the ticks taken, how many levels the heap had, and what the private names held
+-- what was before an iteration: the ticks taken, and what the private names held
 pub record Saved : Type 0 where
   pub used : ℕ
-  pub levels : ℕ
   pub names : Names
   pub globals : Names
 
 abbrev pub saved_of : code.Saved → Saved
-saved_of saved = record { used = saved.used; levels = saved.levels; names = names_of saved.names; globals = names_of saved.globals }
+saved_of saved = record { used = saved.used; names = names_of saved.names; globals = names_of saved.globals }
 
 -- an item has come to the region, and its iteration begins
 unfoldable pub entering : Region → Value → Run Saved
 entering region item s =
     Gives (record {
       used = s.shared.used;
-      levels = length s.shared.levels;
       names = with_names_of s.names region.own unset_names;
       globals = with_names_of s.shared.globals region.own_globals unset_names;
     })
@@ -45,7 +43,7 @@ leaving region saved s =
       names = with_names_of saved.names region.own s.names;
       shared = record s.shared {
         used = saved.used;
-        levels = take saved.levels s.shared.levels;
+        levels = take (length s.shared.levels - 1) s.shared.levels;
         globals = with_names_of saved.globals region.own_globals s.shared.globals;
         iterations = take (length s.shared.iterations - 1) s.shared.iterations;
       };

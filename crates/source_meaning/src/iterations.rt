@@ -17,40 +17,37 @@ use std::alloc::Global;
 #[derive(Drop)]
 pub(crate) struct Saved {
     used: u64,
-    levels: usize,
     names: Names,
     globals: Names,
-    ghost some_levels: { 0 < levels },
 }
 
 /// A region that runs: whether it began outside of any iteration, and how many items had come to the region round it.
 #[derive(Clone, Copy)]
-pub(crate) struct Open {
+pub(crate) struct Begun {
     pub(crate) outside: bool,
     pub(crate) reached: u64,
 }
 
 /// Begins the iteration of an item that has come to a region, with the private names of the region fresh.
 pub(crate) fn enter_iteration(alloc: Global, state: &mut State, region: &Region, item: Value) -> Result<Saved, Stop>
-    ensures { TellsBy saved_of (entering (region_of region.now) item (seen state.old)) result state.new }
+    ensures tells { TellsBy saved_of (entering (region_of region.now) item (seen state.old)) result state.new }
+    ensures above { OnOk result (1 < length (seen state.new).shared.levels) }
 {
     let Some(reached) = state.reached.checked_add(1) else {
         return Err(Stop::Memory);
     };
     state.reached = reached;
-    let levels = state.store.heap.levels();
-    open(alloc, &mut state.store, region, item)?;
+    open_level(alloc, &mut state.store, region, item)?;
     let names = state.names.split(alloc, region.own.as_slice())?;
     let globals = state.globals.split(alloc, region.own_globals.as_slice())?;
     Ok(Saved {
         used: state.used,
-        levels,
         names,
         globals,
     })
 }
 
-fn open(alloc: Global, store: &mut Store, region: &Region, item: Value) -> Result<(), Memory>
+fn open_level(alloc: Global, store: &mut Store, region: &Region, item: Value) -> Result<(), Memory>
     ensures levels { OnOk result (store.new.heap ≡ store.old.heap ++ [] ∷ []) }
     ensures iterations { OnOk result (map iteration_of store.new.iterations ≡ map iteration_of store.old.iterations ++ (record { item = item; lent = region.now.lent; targets = region.now.targets }) ∷ []) }
 {
@@ -63,46 +60,47 @@ fn open(alloc: Global, store: &mut Store, region: &Region, item: Value) -> Resul
 
 /// Ends the iteration that began last: its objects are dropped, and what was before it is put back.
 pub(crate) fn leave_iteration(alloc: Global, state: &mut State, region: &Region, saved: Saved) -> Result<(), Stop>
+    requires { 1 < length (seen state.old).shared.levels }
     ensures { Tells (leaving (region_of region.now) (saved_of saved) (seen state.old)) result state.new }
 {
-    close(&mut state.store, saved.levels);
+    close_level(&mut state.store);
     state.used = saved.used;
     state.names.join(alloc, region.own.as_slice(), saved.names)?;
     state.globals.join(alloc, region.own_globals.as_slice(), saved.globals)?;
     Ok(())
 }
 
-fn close(store: &mut Store, levels: usize)
-    requires { 0 < levels }
-    ensures levels { store.new.heap ≡ take levels store.old.heap }
+fn close_level(store: &mut Store)
+    requires { 1 < length store.old.heap }
+    ensures levels { store.new.heap ≡ take (length store.old.heap - 1) store.old.heap }
     ensures iterations { map iteration_of store.new.iterations ≡ take (length (map iteration_of store.old.iterations) - 1) (map iteration_of store.old.iterations) }
 {
-    store.heap.leave_to(levels);
+    store.heap.leave();
     let _ = store.iterations.pop();
 }
 
 /// Begins a region, to which no item has come.
-pub(crate) fn start_region(state: &mut State) -> Open
+pub(crate) fn start_region(state: &mut State) -> Begun
     ensures new { seen state.new ≡ from_zero (seen state.old) }
     ensures outside { result.outside ≡ is_outside (seen state.old).shared.iterations }
     ensures reached { result.reached ≡ (seen state.old).shared.reached }
 {
-    let open = Open {
+    let begun = Begun {
         outside: state.store.iterations.is_empty(),
         reached: state.reached,
     };
     state.reached = 0;
-    open
+    begun
 }
 
 /// Ends a region that was left so, and counts it with its items where it began outside of any iteration and ended by itself.
-pub(crate) fn finish_region(state: &mut State, open: Open, flow: &Flow) -> Result<(), Stop>
-    ensures { Tells (finishing open.outside open.reached (flow_of flow.now) (seen state.old)) result state.new }
+pub(crate) fn finish_region(state: &mut State, begun: Begun, flow: &Flow) -> Result<(), Stop>
+    ensures { Tells (finishing begun.outside begun.reached (flow_of flow.now) (seen state.old)) result state.new }
 {
-    if open.outside && is_next(flow) {
+    if begun.outside && is_next(flow) {
         count(state)?;
     }
-    state.reached = open.reached;
+    state.reached = begun.reached;
     Ok(())
 }
 
