@@ -1,5 +1,5 @@
 -- A parallel iteration is its beginning, its body and its end, and a region likewise, since a body leaves the iterations round it as they were.
-use Rattle.std.proofs.Common.{◌≡◌, ℕ, ◌+◌, ◌-◌, Bool, true, false, if◌then◌else◌, ◌&&◌, List, [], ◌∷◌, ◌++◌, length, take, Option, Some, refl, sym, ap, subst, ◌∙◌, arith}
+use Rattle.std.proofs.Common.{◌≡◌, map, ℕ, ◌+◌, ◌-◌, Bool, true, false, if◌then◌else◌, ◌&&◌, List, [], ◌∷◌, ◌++◌, length, take, Option, Some, refl, sym, ap, subst, ◌∙◌, arith}
 use Rattle.std.proofs.Math.Seq.{take-append_seam}
 use Rattle.std.proofs.lemmas.List.{length-append}
 use Rattle.codon_base.specs.declared.object.Object.{Object}
@@ -17,6 +17,8 @@ use Rattle.source_meaning.specs.Statements.{statements, body_turn, parallel_turn
 use Rattle.source_meaning.specs.Pipelines.{parallel_part, ahead_of, perform, through}
 use Rattle.source_meaning.specs.Meaning.{run}
 use Rattle.source_meaning.specs.Inside.{Saved, entering, leaving, from_zero, finishing}
+use Rattle.source_meaning.specs.Seen.{iteration_of}
+use Rattle.source_meaning.specs.declared.state.Iteration as code
 use Rattle.source_meaning.proofs.ClosedPipelines.{ahead_of_closed, perform_closed, through_closed}
 use Rattle.source_meaning.proofs.ClosedStatements.{task_closed}
 use Rattle.source_meaning.proofs.Steady.{Kept, Steady, runs_steady}
@@ -66,6 +68,11 @@ item_steps region v body steady s =
 
 -- ---- regions
 
+pub outside_seen : (iterations : List code.Iteration) (empty : Bool) → (empty ≡ true → iterations ≡ []) → (iterations ≡ [] → empty ≡ true) → empty ≡ is_outside (map iteration_of iterations)
+outside_seen [] empty f g = g refl
+outside_seen (one ∷ more) true f g = let none : one ∷ more ≡ [] = f refl in cc
+outside_seen (one ∷ more) false f g = refl
+
 pub counting_steps : (body : Run Flow) (s : State) → counting body s ≡ and_then (body (from_zero s)) (λ flow. finishing (is_outside s.shared.iterations) s.shared.reached flow >>= λ _. pure flow)
 unfolding bind pure counting finishing
 counting_steps body s = refl
@@ -99,7 +106,8 @@ module _ (program : Program) (limit depth : ℕ) (deep : Stop) where
     stage_steady : (scope : Scope) (stage : Stage) (more : List Stage) (v : Value) (s : State) → Kept Flow s.shared.iterations (length s.shared.levels) (staged scope stage more v s)
     stage_steady scope stage more v =
         let c = runs_steady program limit depth deep in
-        ahead_of_closed program c consumers scope (parallel_part more) _ _ (λ r. perform_closed program c consumers scope stage.form r more _ _ (through_closed program c consumers scope r more) v)
+        let on : Value → Option Region → Run Flow = λ w r. perform at consumers scope stage.form r more (through at consumers scope r more) w in
+        ahead_of_closed program c consumers scope (parallel_part more) (on v) (on v) (λ r. perform_closed program c consumers scope stage.form r more (through at consumers scope r more) (through at consumers scope r more) (through_closed program c consumers scope r more) v)
 
     pub stage_steps : (region : Region) (scope : Scope) (stage : Stage) (more : List Stage) (v : Value) (s : State)
         → in_place.item region v (staged scope stage more v) s ≡ (entering region v >>= λ saved. staged scope stage more v >>= λ flow. leaving region saved >>= λ _. pure flow) s
