@@ -30,8 +30,7 @@ pub(crate) struct Begun {
 
 /// Begins the iteration of an item that has come to a region, with the private names of the region fresh.
 pub(crate) fn enter_iteration(alloc: Global, state: &mut State, region: &Region, item: Value) -> Result<Saved, Stop>
-    ensures tells { TellsBy saved_of (entering (region_of region.now) item (seen state.old)) result state.new }
-    ensures above { OnOk result (1 < length (seen state.new).shared.levels) }
+    ensures { TellsBy saved_of (entering (region_of region.now) item (seen state.old)) result state.new }
 {
     let Some(reached) = state.reached.checked_add(1) else {
         return Err(Stop::Memory);
