@@ -17,3 +17,12 @@ pub mod Parts
 pub mod Private
 mod Steady
 pub mod Iterating
+pub mod Sets
+pub mod StatementEquations
+pub mod Turns
+pub mod Blocks
+pub mod Over
+pub mod GivenValues
+pub mod MethodCalls
+pub mod Results
+pub mod Assigns

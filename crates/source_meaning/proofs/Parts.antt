@@ -3,13 +3,14 @@ use Rattle.std.proofs.Common.{◌≡◌, ℕ, ◌+◌, ◌<◌, ◌≤◌, true,
 use Rattle.codon_base.specs.declared.value.Value.{Value}
 use Rattle.codon_base.specs.declared.value.Value.TheVariants as value
 use Rattle.source_trees.specs.declared.expression.Expr.{Expr}
+use Rattle.source_trees.specs.declared.expression.Comparison.{Comparison}
 use Rattle.source_meaning.specs.State.{State}
 use Rattle.source_meaning.specs.Outcome.{Outcome, Gives, Run, and_then, ◌>>=◌, bind, pure}
 use Rattle.source_meaning.specs.Program.{Scope}
 use Rattle.source_meaning.specs.Task.{Setting}
-use Rattle.source_meaning.specs.Expressions.{expr, exprs, condition}
+use Rattle.source_meaning.specs.Expressions.{expr, exprs, condition, if_holds}
 use Rattle.source_meaning.specs.Collected.{collect}
-use Rattle.source_meaning.specs.Lists.{some_true, all_true}
+use Rattle.source_meaning.specs.Lists.{some_true, all_true, chained, compares}
 use Rattle.source_meaning.proofs.Rest.{after, drop_next, drop_end, collect_begin}
 
 module _ (here : Setting) (scope : Scope) where
@@ -37,3 +38,12 @@ module _ (here : Setting) (scope : Scope) where
   pub all_end : (xs : List Expr) (i : ℕ) (s : State) → length xs ≤ i → all_true here scope (drop i xs) s ≡ Gives (value.Bool true) s
   unfolding pure
   all_end xs i s h = ap (λ l. all_true here scope l s) (drop_end xs i h)
+
+  pub chain_next : (xs : List Comparison) (i : ℕ) (x : Comparison) (v : Value) (s : State) → i < length xs → x ≡ get_or xs i x
+      → chained here scope (drop i xs) v s ≡ and_then (compares here scope x v s) (λ o. if_holds here o (chained here scope (drop (i + 1) xs)))
+  unfolding bind
+  chain_next xs i x v s h e = ap (λ (l : List Comparison). chained here scope l v s) (drop_next xs i x h e)
+
+  pub chain_end : (xs : List Comparison) (i : ℕ) (v : Value) (s : State) → length xs ≤ i → chained here scope (drop i xs) v s ≡ Gives (value.Bool true) s
+  unfolding pure
+  chain_end xs i v s h = ap (λ (l : List Comparison). chained here scope l v s) (drop_end xs i h)

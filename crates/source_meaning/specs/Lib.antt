@@ -27,3 +27,8 @@ pub mod Collected
 pub mod Flows
 pub mod Frames
 pub mod Inside
+pub mod Cursors
+pub mod Steps
+pub mod Targets
+pub mod Kinds
+pub mod Pieces

@@ -1,6 +1,8 @@
-ghost use Rattle.std.specs.Prelude.{◌≡◌, ◌<◌, ◌^◌, false, length};
+ghost use Rattle.std.specs.Prelude.{◌≡◌, ◌<◌, ◌^◌, false, length, map};
+ghost use Rattle.std.specs.Coded.{Coded-set, coded_list};
+ghost use Rattle.source_trees.specs.contracts.item.Function as item_function;
 ghost use Rattle.source_meaning.specs.Bodies as bodies;
-ghost use Rattle.source_meaning.specs.Program.{function_scope, fields_of};
+ghost use Rattle.source_meaning.specs.Program.{function_scope, fields_of, methods_of};
 
 use codon_base::Spelling;
 use source_trees::{Class, Function};
@@ -33,6 +35,7 @@ pub(crate) struct KnownClass<'m> {
     pub(crate) class: &'m Class,
     pub(crate) methods: Vec<Known<'m>>,
     pub(crate) fields: Items<Spelling>,
+    ghost has_methods: { map (λ k. k.function.now) methods.items ≡ methods_of class.now } by { Coded-set (coded_list item_function.the_row.coded) (map (λ k. k.function.now) methods.items) (methods_of class.now) },
     ghost has_fields: { fields ≡ fields_of class.now },
 }
 

@@ -1,15 +1,23 @@
-ghost use Rattle.std.specs.Prelude.{◌≡◌};
-ghost use Rattle.source_meaning.specs.State.{is_among};
+ghost use Rattle.std.specs.Prelude.{◌≡◌, ◌∷◌, IfOk};
+ghost use Rattle.std.specs.List.{list_any};
+ghost use Rattle.source_meaning.specs.State.{same, is_among};
 ghost use Rattle.source_meaning.specs.Scopes.{scope_of, has_local, sets};
 
 use crate::names::{is_among, same};
-use codon_base::Spelling;
-use source_trees::LoopNames;
+use codon_base::{Memory, Spelling};
+use source_trees::{LoopNames, Name};
+use std::alloc::Global;
+
+/// The names of a comprehension.
+#[derive(Clone, Copy)]
+pub(crate) struct Inner<'a> {
+    pub(crate) names: &'a LoopNames,
+}
 
 /// Where a text stands: the names of the comprehensions round it, the innermost first, the variables of its body, those of them that no region has as private ones, and whether it is the prelude's.
 #[derive(Clone, Copy)]
 pub(crate) struct Scope<'a> {
-    pub(crate) inner: &'a [&'a LoopNames],
+    pub(crate) inner: &'a [Inner<'a>],
     pub(crate) locals: &'a [Spelling],
     pub(crate) fixed: &'a [Spelling],
     pub(crate) in_prelude: bool,
@@ -21,14 +29,26 @@ pub(crate) fn sets(names: &LoopNames, name: &Spelling) -> bool
 {
     match names {
         LoopNames::One(only) => same(name, &only.spelling),
-        LoopNames::Several(all) => all.as_slice().iter().any(|other| same(name, &other.spelling)),
+        LoopNames::Several(all) => is_one_of(all.as_slice(), name),
     }
+}
+
+fn is_one_of(names: &[Name], name: &Spelling) -> bool
+    ensures { result ≡ list_any (λ other. same name.now other.spelling) names.now }
+{
+    names.iter().any(|other| same(name, &other.spelling))
+}
+
+fn is_inner(inner: &[Inner<'_>], name: &Spelling) -> bool
+    ensures { result ≡ list_any (λ each. sets name.now each.names.now) inner.now }
+{
+    inner.iter().any(|each| sets(each.names, name))
 }
 
 fn has_local(scope: &Scope<'_>, name: &Spelling) -> bool
     ensures { result ≡ has_local name.now scope.now }
 {
-    scope.inner.iter().any(|names| sets(names, name)) || is_among(name, scope.locals)
+    is_inner(scope.inner, name) || is_among(name, scope.locals)
 }
 
 impl<'a> Scope<'a> {
@@ -38,4 +58,16 @@ impl<'a> Scope<'a> {
     {
         has_local(self, name)
     }
+}
+
+/// The names of comprehensions, with those of one more inside.
+pub(crate) fn within<'a>(alloc: Global, top: Inner<'a>, inner: &[Inner<'a>]) -> Result<Vec<Inner<'a>>, Memory>
+    ensures { IfOk result (λ all. all.items ≡ top.entry ∷ inner.now) }
+{
+    let mut all = Vec::new(alloc);
+    all.push(top)?;
+    'inner: for each in inner {
+        all.push(*each)?;
+    }
+    Ok(all)
 }

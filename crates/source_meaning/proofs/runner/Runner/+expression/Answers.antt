@@ -1,4 +1,4 @@
-use Rattle.std.proofs.Common.{◌≡◌, ◌+◌, ◌++◌, ◌∷◌, [], drop, rules, arith, ap, sym, ◌∙◌}
+use Rattle.std.proofs.Common.{◌≡◌, ◌+◌, ◌++◌, ◌∷◌, [], List, drop, rules, arith, ap, sym, ◌∙◌}
 use Rattle.std.proofs.lemmas.Grind.{common_steps}
 use Rattle.source_meaning.specs.Expressions as spec
 use Rattle.source_meaning.specs.Outcome.{bind, pure}
@@ -6,11 +6,15 @@ use Rattle.source_meaning.specs.Seen.{seen}
 use Rattle.source_meaning.specs.Scopes.{scope_of}
 use Rattle.source_meaning.specs.Tasks.{here}
 use Rattle.source_meaning.proofs.Parts.{exprs_begin, some_next, some_end, all_next, all_end}
-use Rattle.source_meaning.proofs.Rest.{collect_next, collect_end}
+use Rattle.codon_base.specs.declared.value.Value.{Value}
+use Rattle.source_meaning.specs.Collected.{collect}
+use Rattle.source_meaning.proofs.Rest.{after, collect_next, collect_end}
 use Rattle.source_meaning.proofs.runner.Runner.+expression.Goals as goal
 
 pub exprs-items-init : goal.exprs-items-init
-exprs-items-init g t c = exprs_begin (here c.args.self.now.program.now c.args.self.now.limit c.args.self.now.depth) (scope_of c.args.scope.now) c.args.items.now (seen c.args.state.now)
+exprs-items-init g t c =
+    let at = here c.args.self.now.program.now c.args.self.now.limit c.args.self.now.depth in
+    exprs_begin at (scope_of c.args.scope.now) c.args.items.now (seen c.args.state.now) ∙ ap (λ (d : List Value). after d (collect (spec.expr at (scope_of c.args.scope.now)) c.args.items.now (seen c.args.state.now))) (sym c.new-done.ensures)
 
 pub exprs-items-preserved : goal.exprs-items-preserved
 exprs-items-preserved g t c =
