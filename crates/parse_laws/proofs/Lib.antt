@@ -8,3 +8,4 @@ pub mod Rows
 pub mod Limits
 pub mod Whole
 pub mod Lists
+pub mod Sorts

@@ -22,13 +22,13 @@ or_true true = refl
 or_true false = refl
 
 module _ {K B : Type 0} (is_separator : K → Bool) (Item : Language K B) (room : List B → Bool) where
-  abbrev add : List B → B → List B
+  abbrev pub add : List B → B → List B
   add s y = s ++ y ∷ []
 
-  abbrev Within : List B → Language K B
+  abbrev pub Within : List B → Language K B
   Within s b y = Item b y × (room s ≡ true)
 
-  abbrev Rest : RowState (List B) → Language K (RowState (List B))
+  abbrev pub Rest : RowState (List B) → Language K (RowState (List B))
   Rest = Row is_separator Within add
 
   -- ---- a row is a list
@@ -109,10 +109,10 @@ module _ {K B : Type 0} (is_separator : K → Bool) (Item : Language K B) (room 
         subst F (sym k.6) (sym (or_true k.4)),
       )
 
-  abbrev Whole : Language K (List B × Bool)
+  abbrev pub Whole : Language K (List B × Bool)
   Whole = Made (Then Item (λ y. Rest (y ∷ [], false))) finished
 
-  up : room [] ≡ true → (a : List K) (w : List B × Bool) → Whole a w → ListedWithin is_separator Item room a w
+  pub up : room [] ≡ true → (a : List K) (w : List B × Bool) → Whole a w → ListedWithin is_separator Item room a w
   up some a w g =
       let f = g.1 in
       let r = g.0 in
@@ -123,7 +123,7 @@ module _ {K B : Type 0} (is_separator : K → Bool) (Item : Language K B) (room 
       let G : List B → Type 0 = λ z. Grows room [] z in
       subst R (sym g.2) (subst Q (sym k.1) (subst P (sym f.joined) k.2), subst G (sym k.1) (some, k.3))
 
-  down : (a : List K) (w : List B × Bool) → ListedWithin is_separator Item room a w → Whole a w
+  pub down : (a : List K) (w : List B × Bool) → ListedWithin is_separator Item room a w → Whole a w
   down a w g =
       let k = split a w g.0 [] g.1 in
       ((w.0, k.4), record { first = k.0; second = k.1; value = k.2; joined = k.5; heads = k.7; tails = k.8 }, ap (λ z. (w.0, z)) k.9)
@@ -145,26 +145,26 @@ module _ {K B : Type 0} (is_separator : K → Bool) (Item : Language K B) (room 
   and_second false y h = absurd (cc)
 
   module _ (fit : B → Type 0) where
-    fit_front : (s : List B) (y : B) → FitEach fit (s ++ y ∷ []) → FitEach fit s
+    pub fit_front : (s : List B) (y : B) → FitEach fit (s ++ y ∷ []) → FitEach fit s
     fit_front [] y f = tt
     fit_front (x ∷ s) y f = (f.0, fit_front s y f.1)
 
-    fit_last : (s : List B) (y : B) → FitEach fit (s ++ y ∷ []) → fit y
+    pub fit_last : (s : List B) (y : B) → FitEach fit (s ++ y ∷ []) → fit y
     fit_last [] y f = f.0
     fit_last (x ∷ s) y f = fit_last s y f.1
 
-    fit_add : (s : List B) (y : B) → FitEach fit s → fit y → FitEach fit (s ++ y ∷ [])
+    pub fit_add : (s : List B) (y : B) → FitEach fit s → fit y → FitEach fit (s ++ y ∷ [])
     fit_add [] y f g = (g, tt)
     fit_add (x ∷ s) y f g = (f.0, fit_add s y f.1 g)
 
-    abbrev FitRow : RowState (List B) → Type 0
+    abbrev pub FitRow : RowState (List B) → Type 0
     FitRow r = FitEach fit r.0
 
     step_shrinks : (u : RowState (List B)) (b : List K) (x : RowState (List B)) → RowStep is_separator Within add u b x → FitRow x → FitRow u
     step_shrinks (s, true) b x g f = let P : RowState (List B) → Type 0 = λ z. FitRow z in fit_front s g.0 (subst P g.2 f)
     step_shrinks (s, false) b x g f = let P : RowState (List B) → Type 0 = λ z. FitRow z in subst P g.3 f
 
-    rest_shrinks : (u : RowState (List B)) (c : List K) (w : RowState (List B)) → Turns (RowStep is_separator Within add) u c w → FitRow w → FitRow u
+    pub rest_shrinks : (u : RowState (List B)) (c : List K) (w : RowState (List B)) → Turns (RowStep is_separator Within add) u c w → FitRow w → FitRow u
     rest_shrinks _ _ _ (done u) f = f
     rest_shrinks _ _ _ (next u b x c w p rest) f = step_shrinks u b x p (rest_shrinks x c w rest f)
 
@@ -179,14 +179,14 @@ module _ {K B : Type 0} (is_separator : K → Bool) (Item : Language K B) (room 
         shrinks = λ s b y g f. fit_front s y f;
       }
 
-      rest_apart : (u : RowState (List B)) (c : List K) (w : RowState (List B)) (s : List K) → Turns (RowStep is_separator Within add) u c w → (x : List B) → u ≡ (x, false) → Free cont s → Free contp (c ++ s)
+      pub rest_apart : (u : RowState (List B)) (c : List K) (w : RowState (List B)) (s : List K) → Turns (RowStep is_separator Within add) u c w → (x : List B) → u ≡ (x, false) → Free cont s → Free contp (c ++ s)
       rest_apart _ _ _ s (done u) x e free = wider_at contp cont given.wider s free
       rest_apart _ _ _ s (next u b y c w p rest) x e free =
           let S : RowState (List B) → Type 0 = λ z. RowStep is_separator Within add z b y in
           let g = subst S e p in
           ap (λ z. sees contp ((z ++ c) ++ s)) g.1 ∙ given.ends_before g.0 g.2
 
-      joins : Joins Item contp (λ y. Rest (y ∷ [], false)) cont fit FitRow
+      pub joins : Joins Item contp (λ y. Rest (y ∷ [], false)) cont fit FitRow
       joins = record {
         apart = λ a y g c w s h free. rest_apart (y ∷ [], false) c w s h (y ∷ []) refl free;
         ends = λ a y g. ([], (y ∷ [], false), done (y ∷ [], false));
@@ -201,7 +201,7 @@ module _ {K B : Type 0} (is_separator : K → Bool) (Item : Language K B) (room 
             rename_law Item (Limited Item fit) (Within s) (λ b y. Within s b y × FitEach fit (add s y)) contp
             (λ b y g. (g, r)) (λ b y g. ((g.0, r), fit_add s y f g.1)) (λ b y g. g.0) (λ b y g. (g.0.0, fit_last s y g.1)) ts (item ts) (item_law ts)
 
-        rest_law : (s : List B) → FitEach fit s → (ts : List K) → Law (Rest (s, false)) (Limited (Rest (s, false)) FitRow) cont ts (rest_of is_separator starts room item s ts)
+        pub rest_law : (s : List B) → FitEach fit s → (ts : List K) → Law (Rest (s, false)) (Limited (Rest (s, false)) FitRow) cont ts (rest_of is_separator starts room item s ts)
         unfolding rest_of
         rest_law s f ts = row_law is_separator Within add (starts_in room starts) contp cont (FitEach fit) row_items (λ _. item) within_item (s, false) f ts
 

@@ -16,11 +16,11 @@ module _ {K : Type 0} where
       → (ts used r : List K) → sees test ts ≡ x → ts ≡ used ++ r → NoneGoesOn L cont used r → NoneGoesOn M cont used r
   none_wide L M cont test x down ts used r h e none b w s c m free same f = none b w s c (down b w s m free (alike test x ts used r b s c h e same f)) free same f
 
-  goes_wide : {A : Type 0} (L M : Language K A) → ((a : List K) (v : A) → L a v → M a v) → (used : List K) → ViableIfAny L used → ViableIfAny M used
+  pub goes_wide : {A : Type 0} (L M : Language K A) → ((a : List K) (v : A) → L a v → M a v) → (used : List K) → ViableIfAny L used → ViableIfAny M used
   goes_wide L M up [] h = tt
   goes_wide L M up (u ∷ us) h = (h.0, h.1, up (u ∷ us ++ h.0) h.1 h.2)
 
-  begins_wide : {A : Type 0} (L M : Language K A) → ((a : List K) (v : A) → L a v → M a v) → (used r : List K) → GoesOn L used r → GoesOn M used r
+  pub begins_wide : {A : Type 0} (L M : Language K A) → ((a : List K) (v : A) → L a v → M a v) → (used r : List K) → GoesOn L used r → GoesOn M used r
   begins_wide L M up used r b = record { token = b.token; rest = b.rest; more = b.more; value = b.value; next = b.next; spells = up (used ++ b.token ∷ b.more) b.value b.spells }
 
   refused_wide : {A : Type 0} (G R G' R' : Language K A) (cont test : K → Bool) (x : Bool) → Agrees G R G' R' cont test x
@@ -100,3 +100,30 @@ module _ {K : Type 0} where
         cc;
   }
   expect_law test cont (t ∷ ts) = expect_at test cont t ts (test t) refl
+
+  -- ---- more tokens that carry on
+
+  free_wider : (cont wide : K → Bool) → ((t : K) → wide t ≡ false → cont t ≡ false) → (s : List K) → Free wide s → Free cont s
+  free_wider cont wide less [] free = refl
+  free_wider cont wide less (t ∷ s) free = less t free
+
+  none_wider : {A : Type 0} (L : Language K A) (cont wide : K → Bool) → ((t : K) → wide t ≡ false → cont t ≡ false) → (used r : List K) → NoneGoesOn L cont used r → NoneGoesOn L wide used r
+  none_wider L cont wide less used r none b w s c g free same e = none b w s c g (free_wider cont wide less s free) same e
+
+  refused_wider : {A : Type 0} (G R : Language K A) (cont wide : K → Bool) → ((t : K) → wide t ≡ false → cont t ≡ false) → (k : Cause) (used r : List K) → Refused G R cont k used r → Refused G R wide k used r
+  refused_wider G R cont wide less Unexpected used r n = none_wider G cont wide less used r n
+  refused_wider G R cont wide less TooDeep used r n = (none_wider R cont wide less used r n.0, n.1)
+
+  pub wider_law : {A : Type 0} (G R : Language K A) (cont wide : K → Bool) → ((t : K) → wide t ≡ false → cont t ≡ false) → (ts : List K) (o : Outcome K A) → Law G R cont ts o → Law G R wide ts o
+  wider_law G R cont wide less ts (Parsed v r) l = record {
+    used = l.used;
+    whole = l.whole;
+    spells = l.spells;
+    only = λ b w s c g free same e. l.only b w s c g (free_wider cont wide less s free) same e;
+  }
+  wider_law G R cont wide less ts (Stopped k r) l = record {
+    used = l.used;
+    whole = l.whole;
+    viable = l.viable;
+    refused = refused_wider G R cont wide less k l.used r l.refused;
+  }

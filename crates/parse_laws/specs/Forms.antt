@@ -1,6 +1,6 @@
 -- The forms that languages of tokens are made of, and what each asks of its parts.
 use Rattle.std.specs.Prelude.{◌≡◌, Bool, true, false, List, [], ◌∷◌, ◌++◌, Option, Some, ◌⊎◌}
-use Rattle.parse_laws.specs.Parser.{sees}
+use Rattle.parse_laws.specs.Parser.{sees, class_of}
 use Rattle.parse_laws.specs.Language.{Language, Free}
 
 -- one after the other; the second may depend on the value of the first
@@ -27,6 +27,13 @@ pub record Agrees {K A : Type 0} (G R G' R' : Language K A) (cont test : K → B
   pub up_within : (a : List K) (v : A) → R a v → R' a v
   pub down : (a : List K) (v : A) (s : List K) → G' a v → Free cont s → sees test (a ++ s) ≡ x → G a v
   pub down_within : (a : List K) (v : A) (s : List K) → R' a v → Free cont s → sees test (a ++ s) ≡ x → R a v
+
+-- The language of each class of first tokens is that part of the whole, and so are the parts within the limit.
+pub record Sorted {K C A : Type 0} (class : K → C) (none : C) (G R : Language K A) (L S : C → Language K A) (cont : K → Bool) : Type 0 where
+  pub up : (c : C) (a : List K) (v : A) → L c a v → G a v
+  pub up_within : (c : C) (a : List K) (v : A) → S c a v → R a v
+  pub down : (a : List K) (v : A) (s : List K) → G a v → Free cont s → L (class_of class none (a ++ s)) a v
+  pub down_within : (a : List K) (v : A) (s : List K) → R a v → Free cont s → S (class_of class none (a ++ s)) a v
 
 -- no token
 abbrev pub never : {K : Type 0} → K → Bool

@@ -37,6 +37,15 @@ abbrev pub sees : {K : Type 0} → (K → Bool) → List K → Bool
 sees test [] = false
 sees test (t ∷ ts) = test t
 
+-- the class of the next token, and what stands for it where there is none
+abbrev pub class_of : {K C : Type 0} → (K → C) → C → List K → C
+class_of class none [] = none
+class_of class none (t ∷ ts) = class t
+
+-- one parser of several, by the class of the next token
+abbrev pub sort : {K C A : Type 0} → (K → C) → C → (C → Parser K A) → Parser K A
+sort class none p = λ ts. p (class_of class none ts) ts
+
 -- one parser or the other, by the next token
 abbrev pub choose : {K A : Type 0} → (K → Bool) → Parser K A → Parser K A → Parser K A
 choose test p q = λ ts. cond (sees test ts) (p ts) (q ts)
