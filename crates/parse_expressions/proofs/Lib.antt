@@ -1,0 +1,5 @@
+pub mod Tokens
+pub mod Heights
+pub mod Opens
+pub mod Least
+pub mod Rows
