@@ -3,3 +3,5 @@ pub mod Heights
 pub mod Opens
 pub mod Least
 pub mod Rows
+pub mod Lows
+pub mod Leaves
