@@ -5,3 +5,4 @@ pub mod Least
 pub mod Rows
 pub mod Lows
 pub mod Leaves
+pub mod Squares

@@ -1,5 +1,5 @@
 -- Lists of trees within a limit of height.
-use Rattle.std.proofs.Common.{◌≡◌, ℕ, zero, suc, ◌+◌, ◌≤◌, max, nat_le, Bool, true, false, List, [], ◌∷◌, ◌++◌, map, refl, sym, ◌∙◌, ap, subst, Option, Some, None, arith}
+use Rattle.std.proofs.Common.{◌≡◌, ℕ, zero, suc, ◌+◌, ◌≤◌, max, nat_le, Bool, true, false, List, [], ◌∷◌, ◌++◌, map, refl, sym, ◌∙◌, ap, subst, Option, Some, None, codes, arith}
 use Rattle.std.proofs.lemmas.Bool.{le-leb, leb-true}
 use Rattle.source_trees.specs.declared.node.Node.{Node}
 use Rattle.source_trees.specs.declared.node.Name.{Name}
@@ -13,7 +13,9 @@ use Rattle.source_trees.specs.Heights.{highest, over_parts, height_of_expr}
 use Rattle.source_trees.specs.Parts.{of_name, of_loop_names, of_expr, of_comparison, expr_step, comparison_step}
 use Rattle.parse_laws.proofs.Lists.{FitEach}
 use Rattle.parse_expressions.specs.Forms.{Low}
-use Rattle.parse_expressions.proofs.Heights.{heights, height_of_comparison}
+use Rattle.grammar_rules.specs.Words.{node_at}
+use Rattle.parse_expressions.proofs.Opens.{x_token, x_tree}
+use Rattle.parse_expressions.proofs.Heights.{heights, height-Name, height_of_comparison}
 
 step_positive : (q : Expr-F ℕ ℕ) → 1 ≤ expr_step over_parts q
 step_positive (Expr-F.Name n s) = omega arith
@@ -98,3 +100,7 @@ room_true n h = leb-true 1 n h
 
 pub no_room : (k n : ℕ) → nat_le k n ≡ false → k ≤ n → ⊥
 no_room k n h l = let i : nat_le k n ≡ true = le-leb k n l in cc
+
+-- the least tree
+pub x_low : (n : ℕ) → 1 ≤ n → Low n x_tree
+x_low n h = let k = height-Name (node_at x_token) (codes "x") in omega arith

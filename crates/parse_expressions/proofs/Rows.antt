@@ -61,7 +61,7 @@ or_none : (x y : Bool) → x || y ≡ false → y ≡ false
 or_none true y h = absurd (cc)
 or_none false y h = h
 
-row_given : ListItems is_comma IsExpr (begins 3) (carries 12) row_carries
+pub row_given : ListItems is_comma IsExpr (begins 3) (carries 12) row_carries
 row_given = record {
   opens = λ b y rest p. opens form.Whole b y p rest;
   own = λ t h. or_second (is_comma t) (begins 3 t || carries 12 t) (or_first (begins 3 t) (carries 12 t) h);
