@@ -6,3 +6,4 @@ pub mod Rows
 pub mod Lows
 pub mod Leaves
 pub mod Squares
+pub mod Atoms
