@@ -22,6 +22,7 @@ use Rattle.grammar_rules.specs.Words.{is_comma, text_of, name_at, node_at}
 use Rattle.parse_expressions.specs.Forms.{Low}
 use Rattle.parse_expressions.specs.Reading as reading
 use Rattle.parse_expressions.specs.Reading.{is_name, is_text, any_number, text_at}
+use Rattle.parse_expressions.proofs.Tokens.{or_first, or_second}
 use Rattle.parse_expressions.proofs.Heights.{height-Text}
 
 -- no limit
@@ -44,14 +45,6 @@ picks_opens pick a o s p = ap (λ z. sees (has pick) (z ++ s)) p.1 ∙ ap in_tab
 -- what carries a row of names on
 abbrev pub names_carry : Token → Bool
 names_carry t = is_comma t || is_name t
-
-or_first : (x y : Bool) → x ≡ true → x || y ≡ true
-or_first true y h = refl
-or_first false y h = absurd (cc)
-
-or_second : (x y : Bool) → y ≡ true → x || y ≡ true
-or_second true y h = refl
-or_second false y h = h
 
 names_given : ListItems is_comma (Picks name_at) is_name never names_carry
 names_given = record {

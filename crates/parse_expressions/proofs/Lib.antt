@@ -7,3 +7,4 @@ pub mod Lows
 pub mod Leaves
 pub mod Squares
 pub mod Atoms
+pub mod Postfixes

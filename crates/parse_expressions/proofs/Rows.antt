@@ -19,7 +19,7 @@ use Rattle.parse_expressions.specs.declared.form.Form.TheVariants as form
 use Rattle.parse_expressions.specs.Forms.{Spells, Low, carried_by, opened_by, looseness, opening, begins, carries}
 use Rattle.parse_expressions.specs.Reading as reading
 use Rattle.parse_expressions.specs.Reading.{is_open, is_close, few}
-use Rattle.parse_expressions.proofs.Tokens.{op_kind, not_op}
+use Rattle.parse_expressions.proofs.Tokens.{or_first, or_second, or_none, op_kind, not_op}
 use Rattle.parse_expressions.proofs.Opens.{x_token, op_token, opens}
 
 -- the parts of trees are read by their law
@@ -48,18 +48,6 @@ listed_opens _ _ (another a x c b xs more p h q) s = ap (sees (begins 3)) (appen
 -- what carries a row on
 abbrev pub row_carries : Token → Bool
 row_carries t = is_comma t || (begins 3 t || carries 12 t)
-
-or_first : (x y : Bool) → x ≡ true → x || y ≡ true
-or_first true y h = refl
-or_first false y h = absurd (cc)
-
-or_second : (x y : Bool) → y ≡ true → x || y ≡ true
-or_second true y h = refl
-or_second false y h = h
-
-or_none : (x y : Bool) → x || y ≡ false → y ≡ false
-or_none true y h = absurd (cc)
-or_none false y h = h
 
 pub row_given : ListItems is_comma IsExpr (begins 3) (carries 12) row_carries
 row_given = record {

@@ -28,7 +28,7 @@ use Rattle.parse_expressions.specs.declared.form.Form.TheVariants as form
 use Rattle.parse_expressions.specs.Forms.{Low, carried_by, opened_by, begins, carries}
 use Rattle.parse_expressions.specs.Reading as reading
 use Rattle.parse_expressions.specs.Reading.{is_square, is_square_close, is_for, is_in, is_if, any_number}
-use Rattle.parse_expressions.proofs.Tokens.{carries_looser, op_kind, keyword_kind, not_op, not_keyword}
+use Rattle.parse_expressions.proofs.Tokens.{or_first, or_second, or_none, carries_looser, op_kind, keyword_kind, not_op, not_keyword}
 use Rattle.parse_expressions.proofs.Opens.{x_token, x_tree, op_token, keyword_token, opens}
 use Rattle.parse_expressions.proofs.Least.{least}
 use Rattle.parse_expressions.proofs.Heights.{heights, height-List, height-Comprehension}
@@ -80,14 +80,6 @@ AfterItem t x = Either (Comprehended t x) (Listing t x)
 
 abbrev pub Inside : Token → Language Token Expr
 Inside t = Either (Ends is_square_close (e.List (node_at t) [])) (Then IsExpr (AfterItem t))
-
-or_first : (x y : Bool) → x ≡ true → x || y ≡ true
-or_first true y h = refl
-or_first false y h = absurd (cc)
-
-or_none : (x y : Bool) → x || y ≡ false → y ≡ false
-or_none true y h = absurd (cc)
-or_none false y h = h
 
 abbrev x_name : Name
 x_name = record { node = node_at x_token; spelling = codes "x" }
