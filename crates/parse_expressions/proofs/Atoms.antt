@@ -28,7 +28,7 @@ use Rattle.parse_expressions.specs.declared.form.Form.TheVariants as form
 use Rattle.parse_expressions.specs.Forms.{Low, carried_by, begins, carries}
 use Rattle.parse_expressions.specs.Reading as reading
 use Rattle.parse_expressions.specs.Reading.{Start, Named, Leaf, Texts, Round, Square, Nowhere, start_in, start_of, leaf_in, leaf_of, text_from, text_at, constant, round_tree, is_open, is_close, is_square, is_text, few, name_tree, call_tree, plain_at, any_number}
-use Rattle.parse_expressions.proofs.Tokens.{bytes_equal, op_kind, keyword_kind, name_kind, number_kind, text_kind, plain_name}
+use Rattle.parse_expressions.proofs.Tokens.{or_second, bytes_equal, op_kind, keyword_kind, name_kind, number_kind, text_kind, plain_name}
 use Rattle.parse_expressions.proofs.Opens.{x_token, x_tree, op_token, name_spelling}
 use Rattle.parse_expressions.proofs.Least.{least}
 use Rattle.parse_expressions.proofs.Heights.{height-Name, height-Number, height-True, height-False, height-None, height-Bracketed, height-Tuple, height-Call}
@@ -285,12 +285,14 @@ atom_down _ _ s (g.comprehension t a x u b ns j c y d z f h p k q l r m n) =
 
 -- ---- the laws
 
-text_carries : (k : TokenKind) → nat_le (carried_by k) 1 ≡ false → in_table (text_in k) ≡ false
-text_carries (kind.Text value) h = absurd (cc)
-text_carries _ h = refl
+-- what carries an atom on: another text, or the bracket of a call
+abbrev pub atom_carries : Token → Bool
+atom_carries t = is_text t || is_open t
 
-open_carries : (t : Token) → is_open t ≡ true → carries 1 t ≡ true
-open_carries t h = ap (λ z. nat_le (carried_by z) 1) (op_kind (codes "(") t h)
+text_wider : (t : Token) → atom_carries t ≡ false → is_text t ≡ false
+text_wider t h =
+    let go : (x : Bool) → is_text t ≡ x → x || is_open t ≡ false → x ≡ false = elim [ true ↦ λ e k. k | false ↦ λ e k. refl ] in
+    go (is_text t) refl h
 
 pub arguments_open : (a : List Token) (xs : List Expr) (s : List Token) → IsArguments a xs → sees is_open (a ++ s) ≡ true
 arguments_open _ _ s (g.no_arguments o c h i) = h
@@ -318,21 +320,21 @@ module _ (room : ℕ) (sub : Form → Parser Token Expr) (below : Reads room sub
     shrinks = λ xs f. let h = height-Call name.node name xs in highest_down room xs (omega arith);
   }
 
-  named_rest_law : (name : Name) (ts : List Token) → Law (NamedRest name) (Limited (NamedRest name) Within) (carries 1) ts (reading.named_rest room sub name ts)
+  named_rest_law : (name : Name) (ts : List Token) → Law (NamedRest name) (Limited (NamedRest name) Within) atom_carries ts (reading.named_rest room sub name ts)
   unfolding reading.named_rest
   named_rest_law name ts =
-      optional_law (Made IsArguments (call_tree name)) (name_tree name) Within (let h = height-Name name.node name.spelling in omega arith) (carries 1) is_open
-      (λ a w s k. arguments_open a k.0 s k.1) open_carries
+      optional_law (Made IsArguments (call_tree name)) (name_tree name) Within (let h = height-Name name.node name.spelling in omega arith) atom_carries is_open
+      (λ a w s k. arguments_open a k.0 s k.1) (λ t h. or_second (is_text t) (is_open t) h)
       (within (nat_le 1 room) (reading.arguments room sub >>= λ xs. pure (call_tree name xs))) ts
-      (λ h. limit_law (Made IsArguments (call_tree name)) Within (carries 1) is_open (nat_le 1 room)
+      (λ h. limit_law (Made IsArguments (call_tree name)) Within atom_carries is_open (nat_le 1 room)
           (λ t i. (op_token (codes ")") ∷ [], call_tree name [], ([], arguments_least t i, refl)))
           (λ none a v s k f free i. no_room 1 room none (let m = subst Within k.2 f in let n = height-Call name.node name k.0 in omega arith))
           (reading.arguments room sub >>= λ xs. pure (call_tree name xs)) ts h
-          (λ some. made_limited IsArguments (carries 1) (call_tree name) (FitEach (Low room)) Within (call_carries name some) ts (reading.arguments room sub ts) (arguments_law room sub below (carries 1) ts)))
+          (λ some. made_limited IsArguments atom_carries (call_tree name) (FitEach (Low room)) Within (call_carries name some) ts (reading.arguments room sub ts) (arguments_law room sub below atom_carries ts)))
 
-  named_law : (ts : List Token) → Law (AtomFrom Named) (Limited (AtomFrom Named) Within) (carries 1) ts (and_then (take_by plain_at ts) (reading.named_rest room sub))
+  named_law : (ts : List Token) → Law (AtomFrom Named) (Limited (AtomFrom Named) Within) atom_carries ts (and_then (take_by plain_at ts) (reading.named_rest room sub))
   named_law ts =
-      join_law (Picks plain_at) never NamedRest (carries 1) Free_of_limit Within
+      join_law (Picks plain_at) never NamedRest atom_carries Free_of_limit Within
       (record {
         apart = λ a v p c w s q free. free_never (c ++ s);
         ends = λ a v p. ([], name_tree v, inr (refl, refl));
@@ -346,11 +348,11 @@ module _ (room : ℕ) (sub : Form → Parser Token Expr) (below : Reads room sub
   leaf_low_in t (kind.Keyword spelling) o h = constant_low room (node_at t) spelling o h
   leaf_low_in t _ o h = absurd (cc)
 
-  leaf_law : (ts : List Token) → Law (AtomFrom Leaf) (Limited (AtomFrom Leaf) Within) (carries 1) ts (take_by leaf_of ts)
-  leaf_law ts = pick_limited leaf_of Within (λ t o h. leaf_low_in t t.kind o h) (carries 1) ts
+  leaf_law : (ts : List Token) → Law (AtomFrom Leaf) (Limited (AtomFrom Leaf) Within) atom_carries ts (take_by leaf_of ts)
+  leaf_law ts = pick_limited leaf_of Within (λ t o h. leaf_low_in t t.kind o h) atom_carries ts
 
-  atom_texts_law : (ts : List Token) → Law (AtomFrom Texts) (Limited (AtomFrom Texts) Within) (carries 1) ts (reading.texts ts)
-  atom_texts_law ts = wider_law leaves.Texts (Limited leaves.Texts Within) is_text (carries 1) (λ t h. text_carries t.kind h) ts (reading.texts ts) (texts_law room ts)
+  atom_texts_law : (ts : List Token) → Law (AtomFrom Texts) (Limited (AtomFrom Texts) Within) atom_carries ts (reading.texts ts)
+  atom_texts_law ts = wider_law leaves.Texts (Limited leaves.Texts Within) is_text atom_carries text_wider ts (reading.texts ts) (texts_law room ts)
 
   round_low : (t : Token) (w : List Expr × Bool) → 1 ≤ room → FitEach (Low room) w.0 → Within (round_tree t w)
   round_low t (xs, true) some f = let h = height-Tuple (node_at t) Bracketed xs in let k = highest_up room xs f in omega arith
@@ -375,14 +377,14 @@ module _ (room : ℕ) (sub : Form → Parser Token Expr) (below : Reads room sub
   close_ends_row : (t : Token) → is_close t ≡ true → row_carries t ≡ false
   close_ends_row = ends_row (codes ")") refl refl refl
 
-  round_law : (ts : List Token) → sees is_open ts ≡ true → Law (AtomFrom Round) (Limited (AtomFrom Round) Within) (carries 1) ts (reading.round room sub ts)
+  round_law : (ts : List Token) → sees is_open ts ≡ true → Law (AtomFrom Round) (Limited (AtomFrom Round) Within) atom_carries ts (reading.round room sub ts)
   unfolding reading.round
   round_law ts h =
-      limit_law (AtomFrom Round) Within (carries 1) is_open (nat_le 1 room)
+      limit_law (AtomFrom Round) Within atom_carries is_open (nat_le 1 room)
       (λ t i. (x_token ∷ op_token (codes ")") ∷ [], round_tree t (x_tree ∷ [], false), round_least t i))
       (λ none a v s k f free i. no_room 1 room none (row_positive k.4.0 k.4.1 k.4.4.0 (round_parts k.0 k.4.1 (subst Within k.4.6 f))))
       (bracket is_open (reading.row room sub few) is_close round_tree) ts h
-      (λ some. bracket_law is_open is_close (op_token (codes ")")) refl (Row few) row_carries (carries 1) close_ends_row round_tree (LowRow room) Within
+      (λ some. bracket_law is_open is_close (op_token (codes ")")) refl (Row few) row_carries atom_carries close_ends_row round_tree (LowRow room) Within
           (λ t. record { grows = λ w f. round_low t w (room_true room some) f; shrinks = λ w f. round_parts t w f })
           (x_token ∷ [], (x_tree ∷ [], false), ((last (x_token ∷ []) x_tree (least form.Whole), (refl, tt)), (x_low room (room_true room some), tt)))
           (reading.row room sub few) (λ r. row_law room sub below few refl r) ts)
@@ -411,17 +413,17 @@ module _ (room : ℕ) (sub : Form → Parser Token Expr) (below : Reads room sub
   round_sees [] h = absurd (cc)
   round_sees (t ∷ ts) h = round_in t.kind h
 
-  from_law : (c : Start) (ts : List Token) → class_of start_of Nowhere ts ≡ c → Law (AtomFrom c) (Limited (AtomFrom c) Within) (carries 1) ts (reading.atom_from room sub c ts)
+  from_law : (c : Start) (ts : List Token) → class_of start_of Nowhere ts ≡ c → Law (AtomFrom c) (Limited (AtomFrom c) Within) atom_carries ts (reading.atom_from room sub c ts)
   unfolding reading.atom_from
   from_law Named ts h = named_law ts
   from_law Leaf ts h = leaf_law ts
   from_law Texts ts h = atom_texts_law ts
   from_law Round ts h = round_law ts (round_sees ts h)
-  from_law Square ts h = square_law room sub below (carries 1) ts
-  from_law Nowhere ts h = nothing_law Within (carries 1) ts
+  from_law Square ts h = square_law room sub below atom_carries ts
+  from_law Nowhere ts h = nothing_law Within atom_carries ts
 
-  pub atom_law : (ts : List Token) → Law IsAtom (Limited IsAtom Within) (carries 1) ts (reading.atom room sub ts)
+  pub atom_law : (ts : List Token) → Law IsAtom (Limited IsAtom Within) atom_carries ts (reading.atom room sub ts)
   unfolding reading.atom
   atom_law ts =
-      sort_limited start_of Nowhere IsAtom AtomFrom Within (carries 1) atom_up (λ a v s p free. atom_down a v s p) ts _
+      sort_limited start_of Nowhere IsAtom AtomFrom Within atom_carries atom_up (λ a v s p free. atom_down a v s p) ts _
       (from_law (class_of start_of Nowhere ts) ts refl)
