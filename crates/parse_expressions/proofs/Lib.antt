@@ -8,3 +8,4 @@ pub mod Leaves
 pub mod Squares
 pub mod Atoms
 pub mod Postfixes
+pub mod Operators

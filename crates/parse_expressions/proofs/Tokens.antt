@@ -43,11 +43,11 @@ pub or_none : (x y : Bool) → x || y ≡ false → y ≡ false
 or_none true y h = absurd (cc)
 or_none false y h = h
 
-and_first : (x y : Bool) → x && y ≡ true → x ≡ true
+pub and_first : (x y : Bool) → x && y ≡ true → x ≡ true
 and_first true y h = refl
 and_first false y h = absurd (cc)
 
-and_second : (x y : Bool) → x && y ≡ true → y ≡ true
+pub and_second : (x y : Bool) → x && y ≡ true → y ≡ true
 and_second true y h = h
 and_second false y h = absurd (cc)
 
