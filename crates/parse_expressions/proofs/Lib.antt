@@ -9,3 +9,4 @@ pub mod Squares
 pub mod Atoms
 pub mod Postfixes
 pub mod Operators
+pub mod Flat
