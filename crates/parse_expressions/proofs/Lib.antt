@@ -10,3 +10,4 @@ pub mod Atoms
 pub mod Postfixes
 pub mod Operators
 pub mod Flat
+pub mod Conditions
