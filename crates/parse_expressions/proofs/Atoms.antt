@@ -1,5 +1,5 @@
 -- The law of atoms.
-use Rattle.std.proofs.Common.{◌≡◌, ℕ, ℤ, zero, suc, ◌+◌, ◌≤◌, max, nat_le, Bool, true, false, cond, if◌then◌else◌, ◌||◌, List, [], ◌∷◌, ◌++◌, map, length, refl, sym, ◌∙◌, ap, subst, Option, Some, None, codes, inl, inr, append_assoc, arith}
+use Rattle.std.proofs.Common.{◌≡◌, ℕ, suc, ◌≤◌, nat_le, Bool, true, false, if◌then◌else◌, ◌||◌, List, [], ◌∷◌, ◌++◌, length, refl, sym, ◌∙◌, ap, subst, Option, Some, None, codes, inl, inr, append_assoc, arith}
 use Rattle.std.specs.Str.{bytes_eq}
 use Rattle.indent_lexer.specs.declared.token.Token.{Token}
 use Rattle.indent_lexer.specs.declared.token.TokenKind.{TokenKind}
@@ -9,26 +9,25 @@ use Rattle.source_trees.specs.declared.expression.Expr.{Expr}
 use Rattle.source_trees.specs.declared.expression.Expr.TheVariants as e
 use Rattle.source_trees.specs.declared.node.Node.{Node}
 use Rattle.source_trees.specs.declared.node.Name.{Name}
-use Rattle.source_trees.specs.Heights.{height_of_expr}
-use Rattle.parse_laws.specs.Parser.{Parser, and_then, class_of, sees, pure, choose, within, expect, take_by, has, in_table, ◌>>=◌, ◌>>◌}
-use Rattle.parse_laws.specs.Language.{Language, Free, Viable, Law}
-use Rattle.parse_laws.specs.Forms.{Then, Is, Picks, Ends, Opens, Closes, Brackets, Made, Either, never}
+use Rattle.parse_laws.specs.Parser.{Parser, and_then, class_of, sees, pure, within, take_by, ◌>>=◌}
+use Rattle.parse_laws.specs.Language.{Language, Law}
+use Rattle.parse_laws.specs.Forms.{Then, Is, Picks, Opens, Brackets, Made, Either, never}
 use Rattle.parse_laws.specs.Limits.{Limited, Nothing, Carries, bracket}
-use Rattle.parse_laws.specs.Loops.{Turns, Listed, last, trailing, another, finished}
+use Rattle.parse_laws.specs.Loops.{Listed, last, trailing, another, finished}
 use Rattle.parse_laws.proofs.Forms.{free_never}
-use Rattle.parse_laws.proofs.Lists.{FitEach, Whole, up, down, grows_of, most_of}
+use Rattle.parse_laws.proofs.Lists.{FitEach, up, down, grows_of, most_of}
 use Rattle.parse_laws.proofs.Steps.{wider_law}
 use Rattle.parse_laws.proofs.Sorts.{sort_limited}
-use Rattle.parse_laws.proofs.Limits.{same_law, nothing_law, take_limited, pick_limited, optional_law, limit_law, join_law, made_limited, bracket_law}
+use Rattle.parse_laws.proofs.Limits.{nothing_law, take_limited, pick_limited, optional_law, limit_law, join_law, made_limited, bracket_law}
 use Rattle.grammar_rules.specs.Expressions as g
 use Rattle.grammar_rules.specs.Expressions.{IsExpr, IsRow, IsAtom, IsArguments}
-use Rattle.grammar_rules.specs.Words.{op_in, keyword_in, name_in, number_in, text_in, is_comma, named_by, is_spelled, is_op, is_keyword, is_word, name_of, number_of, text_of, node_at, name_at, most_items}
+use Rattle.grammar_rules.specs.Words.{op_in, keyword_in, number_in, is_comma, named_by, is_spelled, is_keyword, is_word, name_of, text_of, node_at, name_at, most_items}
 use Rattle.parse_expressions.specs.declared.form.Form.{Form}
 use Rattle.parse_expressions.specs.declared.form.Form.TheVariants as form
-use Rattle.parse_expressions.specs.Forms.{Low, carried_by, begins, carries}
+use Rattle.parse_expressions.specs.Forms.{Low}
 use Rattle.parse_expressions.specs.Reading as reading
 use Rattle.parse_expressions.specs.Reading.{Start, Named, Leaf, Texts, Round, Square, Nowhere, start_in, start_of, leaf_in, leaf_of, text_from, text_at, constant, round_tree, is_open, is_close, is_square, is_text, few, name_tree, call_tree, plain_at, any_number}
-use Rattle.parse_expressions.proofs.Tokens.{or_second, bytes_equal, op_kind, keyword_kind, name_kind, number_kind, text_kind, plain_name}
+use Rattle.parse_expressions.proofs.Tokens.{or_second, op_kind, keyword_kind, name_kind, number_kind, text_kind, plain_name}
 use Rattle.parse_expressions.proofs.Opens.{x_token, x_tree, op_token, name_spelling}
 use Rattle.parse_expressions.proofs.Least.{least}
 use Rattle.parse_expressions.proofs.Heights.{height-Name, height-Number, height-True, height-False, height-None, height-Bracketed, height-Tuple, height-Call}
@@ -36,7 +35,7 @@ use Rattle.parse_expressions.proofs.Lows.{positive, highest_up, highest_down, ro
 use Rattle.parse_expressions.proofs.Leaves as leaves
 use Rattle.parse_expressions.proofs.Leaves.{Free_of_limit, texts_law, turns_of_texts, texts_of_turns, grows_any}
 use Rattle.parse_expressions.proofs.Rows.{Reads, Row, LowRow, row_to, row_from, row_carries, row_law, ends_row, arguments_law}
-use Rattle.parse_expressions.proofs.Squares.{Inside, AfterItem, Comprehended, Listing, Others, square_law}
+use Rattle.parse_expressions.proofs.Squares.{Inside, AfterItem, Comprehended, Listing, square_law}
 
 -- ---- the languages of atoms by what they begin with
 
@@ -81,14 +80,14 @@ named_up a v w =
     let A : List Token → Type 0 = λ z. IsAtom z v in
     elim w.tails as (λ _. IsAtom a v) [
       | inl k ↦
-        let N : Node → Type 0 = λ z. IsAtom (t ∷ w.second) (e.Call z w.value k.0) in
-        let V : Expr → Type 0 = λ z. IsAtom (t ∷ w.second) z in
-        subst A (sym (w.joined ∙ ap (λ z. z ++ w.second) w.heads.1))
-        (subst V (sym k.2) (subst N (sym (ap (λ z. z.node) n.2)) (g.call t w.value w.second k.0 p.1 p.0 k.1)))
+          let N : Node → Type 0 = λ z. IsAtom (t ∷ w.second) (e.Call z w.value k.0) in
+          let V : Expr → Type 0 = λ z. IsAtom (t ∷ w.second) z in
+          subst A (sym (w.joined ∙ ap (λ z. z ++ w.second) w.heads.1))
+          (subst V (sym k.2) (subst N (sym (ap (λ z. z.node) n.2)) (g.call t w.value w.second k.0 p.1 p.0 k.1)))
       | inr k ↦
-        let V : Expr → Type 0 = λ z. IsAtom (t ∷ []) z in
-        subst A (sym (w.joined ∙ ap (λ z. z ++ w.second) w.heads.1 ∙ ap (λ z. t ∷ z) k.0))
-        (subst V (sym (k.1 ∙ ap name_tree n.2)) (g.name t n.0 n.1 p.0))
+          let V : Expr → Type 0 = λ z. IsAtom (t ∷ []) z in
+          subst A (sym (w.joined ∙ ap (λ z. z ++ w.second) w.heads.1 ∙ ap (λ z. t ∷ z) k.0))
+          (subst V (sym (k.1 ∙ ap name_tree n.2)) (g.name t n.0 n.1 p.0))
     ]
 
 constant_up : (t : Token) (spelling : List ℕ) → t.kind ≡ kind.Keyword spelling → (v : Expr) → constant (node_at t) spelling ≡ Some v → IsAtom (t ∷ []) v
@@ -173,8 +172,8 @@ square_up a v w =
     let A : List Token → Type 0 = λ z. IsAtom z v in
     elim w.4 as (λ _. IsAtom a v) [
       | inl k ↦
-        let V : Expr → Type 0 = λ z. IsAtom (t ∷ k.0 ∷ []) z in
-        subst A (sym (w.2 ∙ ap (λ z. t ∷ z) k.1)) (subst V (sym k.3) (g.empty_list t k.0 w.3 k.2))
+          let V : Expr → Type 0 = λ z. IsAtom (t ∷ k.0 ∷ []) z in
+          subst A (sym (w.2 ∙ ap (λ z. t ∷ z) k.1)) (subst V (sym k.3) (g.empty_list t k.0 w.3 k.2))
       | inr k ↦ subst A (sym (w.2 ∙ ap (λ z. t ∷ z) k.joined)) (after_up t w.3 k.first k.value k.heads k.second v k.tails)
     ]
 
@@ -249,39 +248,61 @@ atom_down _ _ s (g.empty_list t c h i) =
 atom_down _ _ s (g.list t a xs more c h p i) =
     let w = down is_comma IsExpr any_number a (xs, more) (row_to a (xs, more) p, grows_any [] xs) in
     let k = w.1 in
-    by_start Square t (ap start_in (op_kind (codes "[") t h)) (t ∷ (a ++ c ∷ [])) (e.List (node_at t) xs)
-    (t, a ++ c ∷ [], refl, h, inr (record {
-      first = k.first;
-      second = k.second ++ c ∷ [];
-      value = k.value;
-      joined = ap (λ z. z ++ c ∷ []) k.joined ∙ append_assoc k.first k.second (c ∷ []);
-      heads = k.heads;
-      tails = inr (k.second, w.0, c, refl, k.tails, i, ap (λ z. e.List (node_at t) z.0) w.2);
-    })) ((a ++ c ∷ []) ++ s)
+    by_start Square t (ap start_in (op_kind (codes "[") t h)) (t ∷ (a ++ c ∷ [])) (e.List (node_at t) xs) (
+      t,
+      a ++ c ∷ [],
+      refl,
+      h,
+      inr (record {
+        first = k.first;
+        second = k.second ++ c ∷ [];
+        value = k.value;
+        joined = ap (λ z. z ++ c ∷ []) k.joined ∙ append_assoc k.first k.second (c ∷ []);
+        heads = k.heads;
+        tails = inr (k.second, w.0, c, refl, k.tails, i, ap (λ z. e.List (node_at t) z.0) w.2);
+      }),
+    ) ((a ++ c ∷ []) ++ s)
 atom_down _ _ s (g.comprehension t a x u b ns j c y d z f h p k q l r m n) =
-    by_start Square t (ap start_in (op_kind (codes "[") t h)) (t ∷ (a ++ u ∷ (b ++ j ∷ (c ++ (d ++ f ∷ []))))) (e.Comprehension (node_at t) x ns y z)
-    (t, a ++ u ∷ (b ++ j ∷ (c ++ (d ++ f ∷ []))), refl, h, inr (record {
-      first = a;
-      second = u ∷ (b ++ j ∷ (c ++ (d ++ f ∷ [])));
-      value = x;
-      joined = refl;
-      heads = p;
-      tails = inl (u, b ++ j ∷ (c ++ (d ++ f ∷ [])), refl, k, record {
-        first = b;
-        second = j ∷ (c ++ (d ++ f ∷ []));
-        value = ns;
+    by_start Square t (ap start_in (op_kind (codes "[") t h)) (t ∷ (a ++ u ∷ (b ++ j ∷ (c ++ (d ++ f ∷ []))))) (e.Comprehension (node_at t) x ns y z) (
+      t,
+      a ++ u ∷ (b ++ j ∷ (c ++ (d ++ f ∷ []))),
+      refl,
+      h,
+      inr (record {
+        first = a;
+        second = u ∷ (b ++ j ∷ (c ++ (d ++ f ∷ [])));
+        value = x;
         joined = refl;
-        heads = q;
-        tails = (j, c ++ (d ++ f ∷ []), refl, l, record {
-          first = c;
-          second = d ++ f ∷ [];
-          value = y;
-          joined = refl;
-          heads = r;
-          tails = (d, z, f, refl, m, n, refl);
-        });
-      });
-    })) ((a ++ u ∷ (b ++ j ∷ (c ++ (d ++ f ∷ [])))) ++ s)
+        heads = p;
+        tails = inl (
+          u,
+          b ++ j ∷ (c ++ (d ++ f ∷ [])),
+          refl,
+          k,
+          record {
+            first = b;
+            second = j ∷ (c ++ (d ++ f ∷ []));
+            value = ns;
+            joined = refl;
+            heads = q;
+            tails = (
+              j,
+              c ++ (d ++ f ∷ []),
+              refl,
+              l,
+              record {
+                first = c;
+                second = d ++ f ∷ [];
+                value = y;
+                joined = refl;
+                heads = r;
+                tails = (d, z, f, refl, m, n, refl);
+              },
+            );
+          },
+        );
+      }),
+    ) ((a ++ u ∷ (b ++ j ∷ (c ++ (d ++ f ∷ [])))) ++ s)
 
 -- ---- the laws
 
@@ -327,10 +348,10 @@ module _ (room : ℕ) (sub : Form → Parser Token Expr) (below : Reads room sub
       (λ a w s k. arguments_open a k.0 s k.1) (λ t h. or_second (is_text t) (is_open t) h)
       (within (nat_le 1 room) (reading.arguments room sub >>= λ xs. pure (call_tree name xs))) ts
       (λ h. limit_law (Made IsArguments (call_tree name)) Within atom_carries is_open (nat_le 1 room)
-          (λ t i. (op_token (codes ")") ∷ [], call_tree name [], ([], arguments_least t i, refl)))
-          (λ none a v s k f free i. no_room 1 room none (let m = subst Within k.2 f in let n = height-Call name.node name k.0 in omega arith))
-          (reading.arguments room sub >>= λ xs. pure (call_tree name xs)) ts h
-          (λ some. made_limited IsArguments atom_carries (call_tree name) (FitEach (Low room)) Within (call_carries name some) ts (reading.arguments room sub ts) (arguments_law room sub below atom_carries ts)))
+      (λ t i. (op_token (codes ")") ∷ [], call_tree name [], ([], arguments_least t i, refl)))
+      (λ none a v s k f free i. no_room 1 room none (let m = subst Within k.2 f in let n = height-Call name.node name k.0 in omega arith))
+      (reading.arguments room sub >>= λ xs. pure (call_tree name xs)) ts h
+      (λ some. made_limited IsArguments atom_carries (call_tree name) (FitEach (Low room)) Within (call_carries name some) ts (reading.arguments room sub ts) (arguments_law room sub below atom_carries ts)))
 
   named_law : (ts : List Token) → Law (AtomFrom Named) (Limited (AtomFrom Named) Within) atom_carries ts (and_then (take_by plain_at ts) (reading.named_rest room sub))
   named_law ts =
@@ -385,9 +406,9 @@ module _ (room : ℕ) (sub : Form → Parser Token Expr) (below : Reads room sub
       (λ none a v s k f free i. no_room 1 room none (row_positive k.4.0 k.4.1 k.4.4.0 (round_parts k.0 k.4.1 (subst Within k.4.6 f))))
       (bracket is_open (reading.row room sub few) is_close round_tree) ts h
       (λ some. bracket_law is_open is_close (op_token (codes ")")) refl (Row few) row_carries atom_carries close_ends_row round_tree (LowRow room) Within
-          (λ t. record { grows = λ w f. round_low t w (room_true room some) f; shrinks = λ w f. round_parts t w f })
-          (x_token ∷ [], (x_tree ∷ [], false), ((last (x_token ∷ []) x_tree (least form.Whole), (refl, tt)), (x_low room (room_true room some), tt)))
-          (reading.row room sub few) (λ r. row_law room sub below few refl r) ts)
+      (λ t. record { grows = λ w f. round_low t w (room_true room some) f; shrinks = λ w f. round_parts t w f })
+      (x_token ∷ [], (x_tree ∷ [], false), ((last (x_token ∷ []) x_tree (least form.Whole), (refl, tt)), (x_low room (room_true room some), tt)))
+      (reading.row room sub few) (λ r. row_law room sub below few refl r) ts)
 
   name_not_round : (b : Bool) → (if b then Nowhere else Named) ≡ Round → ⊥
   name_not_round true h = cc

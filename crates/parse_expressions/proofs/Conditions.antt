@@ -1,46 +1,38 @@
 -- The laws of comparisons, `not`, `and`, `or` and conditional expressions, and with them that of whole expressions.
-use Rattle.std.proofs.Common.{◌≡◌, ℕ, zero, suc, ◌+◌, ◌≤◌, max, nat_le, Bool, true, false, not, if◌then◌else◌, ◌||◌, List, [], ◌∷◌, ◌++◌, length, map, refl, sym, ◌∙◌, ap, subst, Option, Some, None, codes, inl, inr, append_assoc, arith}
+use Rattle.std.proofs.Common.{◌≡◌, ℕ, suc, ◌≤◌, nat_le, Bool, true, false, not, if◌then◌else◌, ◌||◌, List, [], ◌∷◌, ◌++◌, refl, sym, ◌∙◌, ap, subst, Option, Some, None, codes, inl, inr, append_assoc, arith}
 use Rattle.std.proofs.lemmas.List.{append-nil}
-use Rattle.std.proofs.lemmas.Bool.{leb-true}
 use Rattle.indent_lexer.specs.declared.token.Token.{Token}
-use Rattle.indent_lexer.specs.declared.token.TokenKind.{TokenKind}
-use Rattle.indent_lexer.specs.declared.token.TokenKind.TheVariants as kind
 use Rattle.source_trees.specs.declared.expression.Comparison.{Comparison}
 use Rattle.source_trees.specs.declared.expression.Expr.{Expr}
 use Rattle.source_trees.specs.declared.expression.Expr.TheVariants as e
 use Rattle.source_trees.specs.declared.operator.Comparator.{Comparator}
 use Rattle.source_trees.specs.declared.operator.Comparator.TheVariants.{In, NotIn}
-use Rattle.source_trees.specs.Heights.{height_of_expr}
-use Rattle.parse_laws.specs.Parser.{Parser, and_then, sees, pure, choose, within, expect, take_by, has, in_table, ◌>>=◌, ◌>>◌}
-use Rattle.parse_laws.specs.Language.{Language, Free, Viable, Law}
-use Rattle.parse_laws.specs.Forms.{Then, Is, Picks, Ends, Opens, Made, Either, never}
-use Rattle.parse_laws.specs.Limits.{Limited, Carries}
+use Rattle.parse_laws.specs.Parser.{Parser, sees, pure, expect, take_by, has, in_table, ◌>>=◌}
+use Rattle.parse_laws.specs.Language.{Language, Viable, Law}
+use Rattle.parse_laws.specs.Forms.{Then, Picks, Ends, Opens, Made, Either, never}
+use Rattle.parse_laws.specs.Limits.{Limited}
 use Rattle.parse_laws.specs.Loops.{Turns, done}
-use Rattle.parse_laws.proofs.Forms.{free_never, wider_at}
-use Rattle.parse_laws.proofs.Lists.{FitEach}
-use Rattle.parse_laws.proofs.Limits.{same_law, take_limited, optional_law, either_law, limit_law, join_law, made_limited, open_limited, end_limited}
-use Rattle.parse_laws.proofs.Repeats.{at_head}
-use Rattle.grammar_rules.specs.declared.level.Junction.{Junction}
-use Rattle.grammar_rules.specs.declared.level.Junction.TheVariants as junction
+use Rattle.parse_laws.proofs.Forms.{free_never}
+use Rattle.parse_laws.proofs.Limits.{same_law, take_limited, either_law, join_law, made_limited, open_limited, end_limited}
 use Rattle.grammar_rules.specs.declared.level.Rank.TheVariants as rank
 use Rattle.grammar_rules.specs.Expressions as g
 use Rattle.grammar_rules.specs.Expressions.{node_of, IsComparator, IsExpr, IsJoined, IsJoint, IsMore, IsNot, IsCompared, IsComparisons, IsRanked}
-use Rattle.grammar_rules.specs.Levels.{word_of, joined, comparators}
-use Rattle.grammar_rules.specs.Words.{op_in, keyword_in, is_spelled, is_keyword, look_up, node_at}
+use Rattle.grammar_rules.specs.Levels.{comparators}
+use Rattle.grammar_rules.specs.Words.{keyword_in, is_spelled, is_keyword, look_up}
 use Rattle.parse_expressions.specs.declared.form.Form.{Form}
 use Rattle.parse_expressions.specs.declared.form.Form.TheVariants as form
-use Rattle.parse_expressions.specs.Forms.{Spells, Low, carried_by, opened_by, looseness, begins, carries}
+use Rattle.parse_expressions.specs.Forms.{Low, carried_by, carries}
 use Rattle.parse_expressions.specs.Reading as reading
 use Rattle.parse_expressions.specs.Reading.{is_if, is_else, is_in, is_not, in_or_symbol, compares, compare_all, join_all}
-use Rattle.parse_expressions.proofs.Tokens.{op_kind, keyword_kind, not_keyword, carries_looser, look_up_passes, or_first, or_second}
-use Rattle.parse_expressions.proofs.Opens.{x_token, x_tree, op_token, keyword_token, opens}
+use Rattle.parse_expressions.proofs.Tokens.{keyword_kind, carries_looser, look_up_passes, or_first, or_second}
+use Rattle.parse_expressions.proofs.Opens.{x_token, x_tree, keyword_token}
 use Rattle.parse_expressions.proofs.Least.{least}
-use Rattle.parse_expressions.proofs.Heights.{height-Compare, height-Or, height-And, height-Not, height-Conditional}
-use Rattle.parse_expressions.proofs.Lows.{positive, x_low, room_true, no_room, highest_up, highest_down, LowComparison, comparisons_up, comparisons_down}
-use Rattle.parse_expressions.proofs.Leaves.{Free_of_limit, picks_opens}
+use Rattle.parse_expressions.proofs.Heights.{height-Compare}
+use Rattle.parse_expressions.proofs.Lows.{x_low, LowComparison, comparisons_up, comparisons_down}
+use Rattle.parse_expressions.proofs.Leaves.{Free_of_limit}
 use Rattle.parse_expressions.proofs.Rows.{Reads}
 use Rattle.parse_expressions.proofs.Operators.{bit_or_law}
-use Rattle.parse_expressions.proofs.Flat.{More, last, another, Beside, Step, FitBeside, turns_of_more, more_of_turns, Flat, flat_law}
+use Rattle.parse_expressions.proofs.Flat.{More, last, another, Beside, Step, FitBeside, turns_of_more, more_of_turns, flat_law}
 
 -- ---- comparators
 
@@ -106,7 +98,7 @@ comparator_law ts =
     (λ a v s k free. ap (λ z. sees is_not (z ++ s)) k.1 ∙ one_no_not k.0 v k.2)
     (expect is_not >>= λ _. expect is_in >>= λ _. pure NotIn) (take_by in_or_symbol) ts
     (λ h. open_limited is_not (λ _. Ends is_in NotIn) Free_of_limit never (λ t i. (keyword_token (codes "in") ∷ [], NotIn, ((keyword_token (codes "in"), refl, refl, refl), tt)))
-        ts (λ _. expect is_in >>= λ _. pure NotIn) (λ t r i j. end_limited is_in NotIn Free_of_limit tt never r))
+    ts (λ _. expect is_in >>= λ _. pure NotIn) (λ t r i j. end_limited is_in NotIn Free_of_limit tt never r))
     (λ h. take_limited in_or_symbol Free_of_limit (λ o. tt) never ts))
 
 one_look : (t : Token) (o : Option Comparator) → in_or_symbol t ≡ o → in_table o ≡ true → (c : Comparator) × (in_or_symbol t ≡ Some c)
@@ -133,9 +125,9 @@ compares_apart t h =
     by_compares (carries 8 t ≡ false) t h
     (λ i. ap (λ z. nat_le (carried_by z) 8) (keyword_kind (codes "not") t i)) (λ i. ap (λ z. nat_le (carried_by z) 8) (keyword_kind (codes "in") t i))
     (λ o i.
-        let k : not (carries 8 t) ≡ true = look_up_passes (λ z. not (nat_le (carried_by z) 8)) comparators refl t o i in
-        let go : (x : Bool) → not x ≡ true → x ≡ false = elim [ true ↦ λ l. absurd (cc) | false ↦ λ l. refl ] in
-        go (carries 8 t) k)
+    let k : not (carries 8 t) ≡ true = look_up_passes (λ z. not (nat_le (carried_by z) 8)) comparators refl t o i in
+    let go : (x : Bool) → not x ≡ true → x ≡ false = elim [ true ↦ λ l. absurd (cc) | false ↦ λ l. refl ] in
+    go (carries 8 t) k)
 
 -- ---- chains of comparisons
 
@@ -180,8 +172,11 @@ least_operand = least (form.Ranked rank.BitOr)
 comparison_viable : (t : Token) → compares t ≡ true → Viable CompareItem (t ∷ [])
 comparison_viable t h =
     by_compares (Viable CompareItem (t ∷ [])) t h
-    (λ i. (keyword_token (codes "in") ∷ x_token ∷ [], comparison_of NotIn x_tree,
-        item_at (t ∷ keyword_token (codes "in") ∷ []) NotIn (x_token ∷ []) x_tree (g.is_not_in t (keyword_token (codes "in")) i refl) least_operand))
+    (λ i. (
+      keyword_token (codes "in") ∷ x_token ∷ [],
+      comparison_of NotIn x_tree,
+      item_at (t ∷ keyword_token (codes "in") ∷ []) NotIn (x_token ∷ []) x_tree (g.is_not_in t (keyword_token (codes "in")) i refl) least_operand,
+    ))
     (λ i. (x_token ∷ [], comparison_of In x_tree, item_at (t ∷ []) In (x_token ∷ []) x_tree (g.is_in t i) least_operand))
     (λ o i. (x_token ∷ [], comparison_of o x_tree, item_at (t ∷ []) o (x_token ∷ []) x_tree (g.symbol t o i) least_operand))
 
@@ -212,8 +207,42 @@ compared_from a v k =
     let V : Expr → Type 0 = λ z. IsCompared (n.first ++ n.second) z in
     subst A (sym n.joined) (subst V (sym k.2) (elim (more_of_turns CompareItem (n.value, []) n.second k.0 n.tails) as (λ _. IsCompared (n.first ++ n.second) (compare_all k.0)) [
       | inl q ↦
-        let B : List Token → Type 0 = λ z. IsCompared z (compare_all k.0) in
-        let W : Expr → Type 0 = λ z. IsCompared n.first z in
-        subst B (sym (ap (λ z. n.first ++ z) q.0 ∙ append-nil n.first)) (subst W (sym (ap compare_all q.1)) (g.uncompared n.first n.value n.heads))
+          let B : List Token → Type 0 = λ z. IsCompared z (compare_all k.0) in
+          let W : Expr → Type 0 = λ z. IsCompared n.first z in
+          subst B (sym (ap (λ z. n.first ++ z) q.0 ∙ append-nil n.first)) (subst W (sym (ap compare_all q.1)) (g.uncompared n.first n.value n.heads))
       | inr q ↦ let W : Expr → Type 0 = λ z. IsCompared (n.first ++ n.second) z in subst W (sym (ap compare_all q.2)) (compared_at n.first n.value n.heads n.second q.0 q.1)
     ]))
+
+module _ (room : ℕ) (sub : Form → Parser Token Expr) (below : Reads room sub) where
+  abbrev Within : Expr → Type 0
+  Within = Low (suc room)
+
+  comparison_law : 1 ≤ room → (ts : List Token) → Law CompareItem (Limited CompareItem (LowComparison room)) (carries 8) ts (reading.comparison room sub ts)
+  unfolding reading.comparison
+  comparison_law some ts =
+      join_law IsComparator never (λ o. Made (IsRanked rank.BitOr) (comparison_of o)) (carries 8) Free_of_limit (LowComparison room)
+      (record {
+        apart = λ a o p c w s q free. free_never (c ++ s);
+        ends = λ a o p. (x_token ∷ [], comparison_of o x_tree, (x_tree, least_operand, refl));
+        ends_within = λ a o p f. (x_token ∷ [], comparison_of o x_tree, ((x_tree, least_operand, refl), x_low room some));
+        shrinks = λ a o p c w q f. tt;
+      }) ts (reading.comparator ts) (comparator_law ts) (λ o. sub (form.Ranked rank.BitOr) >>= λ y. pure (comparison_of o y))
+      (λ used o r p f e. made_limited (IsRanked rank.BitOr) (carries 8) (comparison_of o) (Low room) (LowComparison room)
+      (record { grows = λ y k. k; shrinks = λ y k. k }) r (sub (form.Ranked rank.BitOr) r) (below (form.Ranked rank.BitOr) r))
+
+  compare_low : (v : Beside CompareItem) → FitBeside CompareItem room sub (LowComparison room) v → Within (compare_all v)
+  compare_low (x, []) f = f
+  compare_low (x, c ∷ cs) f =
+      let h = height-Compare (node_of x) x (c ∷ cs) in let k = comparisons_up room (c ∷ cs) f.1 in let l = f.0 in omega arith
+
+  compare_parts : (v : Beside CompareItem) → Within (compare_all v) → FitBeside CompareItem room sub (LowComparison room) v
+  compare_parts (x, []) f = f
+  compare_parts (x, c ∷ cs) f = let h = height-Compare (node_of x) x (c ∷ cs) in (omega arith, comparisons_down room (c ∷ cs) (omega arith))
+
+  pub compared_law : (ts : List Token) → Law IsCompared (Limited IsCompared Within) (carries 9) ts (reading.compared room sub ts)
+  unfolding reading.compared Compared
+  compared_law ts =
+      same_law Compared IsCompared Within (carries 9) compared_from compared_to ts _
+      (flat_law CompareItem room sub (LowComparison room) compares (carries 8) (carries 9) (reading.comparison room sub) comparison_opens comparison_viable compares_own
+      (carries_looser 8 9 (omega arith)) compares_apart (λ some us h. comparison_law some us)
+      (IsRanked rank.BitOr) (reading.bit_or room sub) (bit_or_law room sub below) compare_all (record { grows = compare_low; shrinks = compare_parts }) ts)

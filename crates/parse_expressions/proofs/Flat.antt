@@ -1,13 +1,13 @@
 -- The law of a first operand with items beside it that are all parts of one node, as in chains of `or`, `and` and
 -- comparisons. The state of the loop is the first operand and the items so far: alone the operand may fill the room,
 -- and with an item beside it it must fit under a node.
-use Rattle.std.proofs.Common.{◌≡◌, ℕ, zero, suc, ◌+◌, ◌≤◌, nat_le, Bool, true, false, List, [], ◌∷◌, ◌++◌, length, refl, sym, ◌∙◌, ap, subst, inl, inr, ◌⊎◌, append_assoc, arith}
+use Rattle.std.proofs.Common.{◌≡◌, ℕ, suc, ◌≤◌, Bool, true, false, List, [], ◌∷◌, ◌++◌, length, refl, sym, ◌∙◌, ap, subst, inl, inr, ◌⊎◌, append_assoc, arith}
 use Rattle.std.proofs.lemmas.List.{append-nil}
 use Rattle.std.proofs.lemmas.Bool.{leb-true}
 use Rattle.indent_lexer.specs.declared.token.Token.{Token}
 use Rattle.source_trees.specs.declared.expression.Expr.{Expr}
 use Rattle.source_trees.specs.Heights.{height_of_expr}
-use Rattle.parse_laws.specs.Parser.{Parser, and_then, sees, pure, within, ◌>>=◌}
+use Rattle.parse_laws.specs.Parser.{Parser, sees, pure, within, ◌>>=◌}
 use Rattle.parse_laws.specs.Language.{Language, Free, Viable, Law}
 use Rattle.parse_laws.specs.Forms.{Then, Made}
 use Rattle.parse_laws.specs.Limits.{Limited, Carries}
@@ -20,7 +20,6 @@ use Rattle.parse_expressions.specs.declared.form.Form.{Form}
 use Rattle.parse_expressions.specs.Forms.{Low}
 use Rattle.parse_expressions.specs.Reading as reading
 use Rattle.parse_expressions.proofs.Lows.{positive, no_room}
-use Rattle.parse_expressions.proofs.Rows.{Reads}
 
 -- items one after the other, at least one
 pub data More {B : Type 0} (Item : Language Token B) : List Token → List B → Type 0 where

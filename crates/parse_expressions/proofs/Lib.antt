@@ -11,3 +11,5 @@ pub mod Postfixes
 pub mod Operators
 pub mod Flat
 pub mod Conditions
+pub mod Junctions
+pub mod Wholes

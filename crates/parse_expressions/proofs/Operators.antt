@@ -1,10 +1,8 @@
 -- The laws of factors and of the operators that group to the left.
-use Rattle.std.proofs.Common.{◌≡◌, ℕ, zero, suc, ◌+◌, ◌≤◌, max, nat_le, Bool, true, false, not, ◌&&◌, List, [], ◌∷◌, ◌++◌, length, refl, sym, ◌∙◌, ap, subst, Option, Some, None, codes, inl, inr, append_assoc, arith}
+use Rattle.std.proofs.Common.{◌≡◌, ℕ, suc, ◌≤◌, nat_le, Bool, true, false, not, ◌&&◌, List, [], ◌∷◌, ◌++◌, length, refl, sym, ◌∙◌, ap, subst, Option, Some, None, codes, inl, inr, append_assoc, arith}
 use Rattle.std.proofs.lemmas.List.{append-nil}
 use Rattle.std.proofs.lemmas.Bool.{le-leb, leb-true}
 use Rattle.indent_lexer.specs.declared.token.Token.{Token}
-use Rattle.indent_lexer.specs.declared.token.TokenKind.{TokenKind}
-use Rattle.indent_lexer.specs.declared.token.TokenKind.TheVariants as kind
 use Rattle.source_trees.specs.declared.expression.Expr.{Expr}
 use Rattle.source_trees.specs.declared.expression.Expr.TheVariants as e
 use Rattle.source_trees.specs.declared.node.Node.{Node}
@@ -12,10 +10,10 @@ use Rattle.source_trees.specs.declared.operator.BinaryOp.{BinaryOp}
 use Rattle.source_trees.specs.declared.operator.BinaryOp.TheVariants.{Power}
 use Rattle.source_trees.specs.declared.operator.UnaryOp.{UnaryOp}
 use Rattle.source_trees.specs.Heights.{height_of_expr}
-use Rattle.parse_laws.specs.Parser.{Parser, and_then, sees, pure, choose, within, expect, take_by, has, in_table, ◌>>=◌, ◌>>◌}
+use Rattle.parse_laws.specs.Parser.{Parser, and_then, sees, pure, within, expect, take_by, has, in_table, ◌>>=◌}
 use Rattle.parse_laws.specs.Language.{Language, Free, Viable, Law}
 use Rattle.parse_laws.specs.Forms.{Then, Is, Picks, Opens, Made, Either, never}
-use Rattle.parse_laws.specs.Limits.{Limited, Carries}
+use Rattle.parse_laws.specs.Limits.{Limited}
 use Rattle.parse_laws.specs.Loops.{Chain, stop, more, Chained}
 use Rattle.parse_laws.proofs.Forms.{free_never, wider_at}
 use Rattle.parse_laws.proofs.Chains.{chain_snoc, repeat_chain_law}
@@ -29,11 +27,11 @@ use Rattle.grammar_rules.specs.Levels.{tighter, operators, signs}
 use Rattle.grammar_rules.specs.Words.{look_up, node_at}
 use Rattle.parse_expressions.specs.declared.form.Form.{Form}
 use Rattle.parse_expressions.specs.declared.form.Form.TheVariants as form
-use Rattle.parse_expressions.specs.Forms.{Spells, Low, carried_by, opened_by, looseness_of_rank, looseness_of_operand, begins, carries}
+use Rattle.parse_expressions.specs.Forms.{Low, carried_by, opened_by, looseness_of_rank, looseness_of_operand, begins, carries}
 use Rattle.parse_expressions.specs.Reading as reading
 use Rattle.parse_expressions.specs.Reading.{is_power, sign_from, sign_at, operation}
 use Rattle.parse_expressions.proofs.Tokens.{op_kind, carries_looser, look_up_passes, and_first, and_second}
-use Rattle.parse_expressions.proofs.Opens.{x_token, x_tree, op_token, opens}
+use Rattle.parse_expressions.proofs.Opens.{x_token, x_tree, opens}
 use Rattle.parse_expressions.proofs.Least.{least}
 use Rattle.parse_expressions.proofs.Heights.{height-Binary, height-Unary}
 use Rattle.parse_expressions.proofs.Lows.{positive, x_low, room_true, no_room}
@@ -134,9 +132,10 @@ not_true false h = refl
 
 rank_own : (r : Rank) (t : Token) (o : BinaryOp) → look_up (operators r) t ≡ Some o → (carries (looseness_of_rank r) t ≡ true) × (carries (looseness_of_operand r) t ≡ false)
 rank_own r t o h =
-    let k = rank_passes r t o h in
-    (and_first (carries (looseness_of_rank r) t) (not (carries (looseness_of_operand r) t)) k,
-    not_true (carries (looseness_of_operand r) t) (and_second (carries (looseness_of_rank r) t) (not (carries (looseness_of_operand r) t)) k))
+    let k = rank_passes r t o h in (
+      and_first (carries (looseness_of_rank r) t) (not (carries (looseness_of_operand r) t)) k,
+      not_true (carries (looseness_of_operand r) t) (and_second (carries (looseness_of_rank r) t) (not (carries (looseness_of_operand r) t)) k),
+    )
 
 rank_wider : (r : Rank) (t : Token) → carries (looseness_of_rank r) t ≡ false → carries (looseness_of_operand r) t ≡ false
 rank_wider rank.Term t h = carries_looser 2 3 (omega arith) t h
@@ -202,15 +201,15 @@ module _ (room : ℕ) (sub : Form → Parser Token Expr) (below : Reads room sub
       (λ a w s k. ap (λ z. sees is_power (z ++ s)) k.2 ∙ k.3) power_carries
       (within (nat_le (height_of_expr x) room) (expect is_power >>= λ _. sub form.Factor >>= λ y. pure (operation Power x y))) ts
       (λ h. limit_law (PowerOf x) Within (carries 2) is_power (nat_le (height_of_expr x) room)
-          (λ t i. (x_token ∷ [], operation Power x x_tree, (t, x_token ∷ [], refl, i, (x_tree, least form.Factor, refl))))
-          (λ none a v s k j free i. no_room (height_of_expr x) room none (operation_parts Power x k.4.0 (subst Within k.4.2 j)).0)
-          (expect is_power >>= λ _. sub form.Factor >>= λ y. pure (operation Power x y)) ts h
-          (λ some. let low = leb-true (height_of_expr x) room some in
-              open_limited is_power (λ _. Made IsFactor (operation Power x)) Within (carries 2)
-              (λ t i. (x_token ∷ [], operation Power x x_tree, ((x_tree, least form.Factor, refl), operation_low Power x x_tree low (x_low room (let p = positive x in omega arith)))))
-              ts (λ _. sub form.Factor >>= λ y. pure (operation Power x y))
-              (λ t r i j. made_limited IsFactor (carries 2) (operation Power x) (Low room) Within
-                  (record { grows = λ y k. operation_low Power x y low k; shrinks = λ y k. (operation_parts Power x y k).1 }) r (sub form.Factor r) (below form.Factor r))))
+      (λ t i. (x_token ∷ [], operation Power x x_tree, (t, x_token ∷ [], refl, i, (x_tree, least form.Factor, refl))))
+      (λ none a v s k j free i. no_room (height_of_expr x) room none (operation_parts Power x k.4.0 (subst Within k.4.2 j)).0)
+      (expect is_power >>= λ _. sub form.Factor >>= λ y. pure (operation Power x y)) ts h
+      (λ some. let low = leb-true (height_of_expr x) room some in
+      open_limited is_power (λ _. Made IsFactor (operation Power x)) Within (carries 2)
+      (λ t i. (x_token ∷ [], operation Power x x_tree, ((x_tree, least form.Factor, refl), operation_low Power x x_tree low (x_low room (let p = positive x in omega arith)))))
+      ts (λ _. sub form.Factor >>= λ y. pure (operation Power x y))
+      (λ t r i j. made_limited IsFactor (carries 2) (operation Power x) (Low room) Within
+      (record { grows = λ y k. operation_low Power x y low k; shrinks = λ y k. (operation_parts Power x y k).1 }) r (sub form.Factor r) (below form.Factor r))))
 
   power_apart : (x : Expr) (c : List Token) (w : Expr) (s : List Token) → PowerRest x c w → Free (carries 2) s → Free (carries 1) (c ++ s)
   power_apart x c w s (inl k) free = ap (λ z. sees (carries 1) (z ++ s)) k.2 ∙ power_no_postfix k.0 k.3
@@ -239,9 +238,11 @@ module _ (room : ℕ) (sub : Form → Parser Token Expr) (below : Reads room sub
 
   sign_viable : (t : Token) → has sign_at t ≡ true → Viable Signed (t ∷ [])
   sign_viable t h =
-      let o = sign_look t (look_up signs t) h in
-      (x_token ∷ [], signed_tree (node_at t, o.0) x_tree,
-      record { first = t ∷ []; second = x_token ∷ []; value = (node_at t, o.0); joined = refl; heads = (t, refl, ap (sign_from (node_at t)) o.1); tails = (x_tree, least form.Factor, refl) })
+      let o = sign_look t (look_up signs t) h in (
+        x_token ∷ [],
+        signed_tree (node_at t, o.0) x_tree,
+        record { first = t ∷ []; second = x_token ∷ []; value = (node_at t, o.0); joined = refl; heads = (t, refl, ap (sign_from (node_at t)) o.1); tails = (x_tree, least form.Factor, refl) },
+      )
 
   signed_law : (ts : List Token) → sees (has sign_at) ts ≡ true → Law Signed (Limited Signed Within) (carries 2) ts (reading.signed room sub ts)
   unfolding reading.signed
@@ -250,15 +251,15 @@ module _ (room : ℕ) (sub : Form → Parser Token Expr) (below : Reads room sub
       (λ none a v s k f free i. no_room 1 room none (let l = signed_parts k.value k.tails.0 (subst Within k.tails.2 f) in let p = positive k.tails.0 in omega arith))
       (take_by sign_at >>= λ s. sub form.Factor >>= λ y. pure (signed_tree s y)) ts h
       (λ some. let room_is = room_true room some in
-          join_law (Picks sign_at) never (λ s. Made IsFactor (signed_tree s)) (carries 2) Free_of_limit Within
-          (record {
-            apart = λ a s p c w r q free. free_never (c ++ r);
-            ends = λ a s p. (x_token ∷ [], signed_tree s x_tree, (x_tree, least form.Factor, refl));
-            ends_within = λ a s p f. (x_token ∷ [], signed_tree s x_tree, ((x_tree, least form.Factor, refl), signed_low room_is s x_tree (x_low room room_is)));
-            shrinks = λ a s p c w q f. tt;
-          }) ts (take_by sign_at ts) (take_limited sign_at Free_of_limit (λ o. tt) never ts) (λ s. sub form.Factor >>= λ y. pure (signed_tree s y))
-          (λ used s r p f e. made_limited IsFactor (carries 2) (signed_tree s) (Low room) Within
-              (record { grows = λ y k. signed_low room_is s y k; shrinks = λ y k. signed_parts s y k }) r (sub form.Factor r) (below form.Factor r)))
+      join_law (Picks sign_at) never (λ s. Made IsFactor (signed_tree s)) (carries 2) Free_of_limit Within
+      (record {
+        apart = λ a s p c w r q free. free_never (c ++ r);
+        ends = λ a s p. (x_token ∷ [], signed_tree s x_tree, (x_tree, least form.Factor, refl));
+        ends_within = λ a s p f. (x_token ∷ [], signed_tree s x_tree, ((x_tree, least form.Factor, refl), signed_low room_is s x_tree (x_low room room_is)));
+        shrinks = λ a s p c w q f. tt;
+      }) ts (take_by sign_at ts) (take_limited sign_at Free_of_limit (λ o. tt) never ts) (λ s. sub form.Factor >>= λ y. pure (signed_tree s y))
+      (λ used s r p f e. made_limited IsFactor (carries 2) (signed_tree s) (Low room) Within
+      (record { grows = λ y k. signed_low room_is s y k; shrinks = λ y k. signed_parts s y k }) r (sub form.Factor r) (below form.Factor r)))
 
   pub factor_law : (ts : List Token) → Law IsFactor (Limited IsFactor Within) (carries 2) ts (reading.factor room sub ts)
   unfolding reading.factor
@@ -267,7 +268,7 @@ module _ (room : ℕ) (sub : Form → Parser Token Expr) (below : Reads room sub
       (either_law Signed (Then IsPostfix PowerRest) Within (carries 2) (has sign_at)
       (λ a v s k. ap (λ z. sees (has sign_at) (z ++ s)) k.joined ∙ ap (sees (has sign_at)) (append_assoc k.first k.second s) ∙ picks_opens sign_at k.first k.value (k.second ++ s) k.heads)
       (λ a v s k free. ap (λ z. sees (has sign_at) (z ++ s)) k.joined ∙ ap (sees (has sign_at)) (append_assoc k.first k.second s)
-          ∙ at_head (begins 1) (has sign_at) false atom_no_sign (k.first ++ (k.second ++ s)) (opens form.Postfix k.first k.value k.heads (k.second ++ s)))
+      ∙ at_head (begins 1) (has sign_at) false atom_no_sign (k.first ++ (k.second ++ s)) (opens form.Postfix k.first k.value k.heads (k.second ++ s)))
       (reading.signed room sub) (reading.postfix room sub >>= reading.power room sub) ts
       (λ h. signed_law ts h) (λ h. base_law ts))
 

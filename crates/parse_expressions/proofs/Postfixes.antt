@@ -1,5 +1,5 @@
 -- The law of atoms with indices, slices, fields and calls of methods.
-use Rattle.std.proofs.Common.{◌≡◌, ℕ, zero, suc, ◌+◌, ◌≤◌, max, nat_le, Bool, true, false, cond, ◌||◌, List, [], ◌∷◌, ◌++◌, map, length, refl, sym, ◌∙◌, ap, subst, Option, Some, None, codes, inl, inr, append_assoc, arith}
+use Rattle.std.proofs.Common.{◌≡◌, ℕ, suc, ◌+◌, nat_le, Bool, true, false, ◌||◌, List, [], ◌∷◌, ◌++◌, length, refl, sym, ◌∙◌, ap, subst, Option, Some, None, codes, inl, inr, append_assoc, arith}
 use Rattle.std.proofs.lemmas.List.{append-nil}
 use Rattle.std.proofs.lemmas.Bool.{leb-true}
 use Rattle.indent_lexer.specs.declared.token.Token.{Token}
@@ -7,8 +7,8 @@ use Rattle.indent_lexer.specs.declared.token.TokenKind.{TokenKind}
 use Rattle.indent_lexer.specs.declared.token.TokenKind.TheVariants as kind
 use Rattle.source_trees.specs.declared.expression.Expr.{Expr}
 use Rattle.source_trees.specs.declared.expression.Expr.TheVariants as e
-use Rattle.source_trees.specs.Heights.{highest, height_of_expr}
-use Rattle.parse_laws.specs.Parser.{Parser, and_then, sees, pure, choose, within, expect, take_by, in_table, ◌>>=◌, ◌>>◌}
+use Rattle.source_trees.specs.Heights.{height_of_expr}
+use Rattle.parse_laws.specs.Parser.{Parser, sees, pure, choose, within, expect, take_by, in_table, ◌>>=◌, ◌>>◌}
 use Rattle.parse_laws.specs.Language.{Language, Free, Viable, Law}
 use Rattle.parse_laws.specs.Forms.{Then, Is, Picks, Ends, Opens, Closes, Made, Either, never}
 use Rattle.parse_laws.specs.Limits.{Limited, Nothing, Carries}
@@ -26,9 +26,8 @@ use Rattle.parse_expressions.specs.declared.form.Form.TheVariants as form
 use Rattle.parse_expressions.specs.Forms.{Low, carried_by, opened_by, begins, carries}
 use Rattle.parse_expressions.specs.Reading as reading
 use Rattle.parse_expressions.specs.Reading.{is_open, is_square, is_square_close, is_dot, is_colon, is_trailer}
-use Rattle.parse_expressions.proofs.Tokens.{op_kind, not_op, carries_looser, or_first, or_second, or_none}
-use Rattle.parse_expressions.proofs.Opens.{x_token, x_tree, op_token, opens}
-use Rattle.parse_expressions.proofs.Least.{least}
+use Rattle.parse_expressions.proofs.Tokens.{op_kind, or_first, or_second, or_none}
+use Rattle.parse_expressions.proofs.Opens.{x_token, op_token, opens}
 use Rattle.parse_expressions.proofs.Heights.{heights, height-Index, height-Slice, height-Field, height-MethodCall}
 use Rattle.parse_expressions.proofs.Lows.{highest_up, highest_down, highest-append, no_room, LowOption, optional_up, optional_down}
 use Rattle.parse_expressions.proofs.Leaves.{Free_of_limit}
@@ -49,9 +48,9 @@ optional_from a o w =
     elim w as (λ _. IsOptional a o) [
       | inl k ↦ let X : Option Expr → Type 0 = λ z. IsOptional a z in subst X (sym k.2) (g.present a k.0 k.1)
       | inr k ↦
-        let A : List Token → Type 0 = λ z. IsOptional z o in
-        let X : Option Expr → Type 0 = λ z. IsOptional [] z in
-        subst A (sym k.0) (subst X (sym k.1) g.absent)
+          let A : List Token → Type 0 = λ z. IsOptional z o in
+          let X : Option Expr → Type 0 = λ z. IsOptional [] z in
+          subst A (sym k.0) (subst X (sym k.1) g.absent)
     ]
 
 abbrev method_tree : Expr → List ℕ → List Expr → Expr
@@ -96,13 +95,13 @@ dotted_up a x p b u k =
     let A : List Token → Type 0 = λ z. IsPostfix (a ++ z) u in
     elim n.tails as (λ _. IsPostfix (a ++ b) u) [
       | inl q ↦
-        let V : Expr → Type 0 = λ z. IsPostfix (a ++ k.0 ∷ n.heads.0 ∷ n.second) z in
-        subst A (sym (k.2 ∙ ap (λ z. k.0 ∷ z) (n.joined ∙ ap (λ z. z ++ n.second) n.heads.1)))
-        (subst V (sym q.2) (g.method a x k.0 n.heads.0 n.value n.second q.0 p k.3 n.heads.2 q.1))
+          let V : Expr → Type 0 = λ z. IsPostfix (a ++ k.0 ∷ n.heads.0 ∷ n.second) z in
+          subst A (sym (k.2 ∙ ap (λ z. k.0 ∷ z) (n.joined ∙ ap (λ z. z ++ n.second) n.heads.1)))
+          (subst V (sym q.2) (g.method a x k.0 n.heads.0 n.value n.second q.0 p k.3 n.heads.2 q.1))
       | inr q ↦
-        let V : Expr → Type 0 = λ z. IsPostfix (a ++ k.0 ∷ n.heads.0 ∷ []) z in
-        subst A (sym (k.2 ∙ ap (λ z. k.0 ∷ z) (n.joined ∙ ap (λ z. z ++ n.second) n.heads.1 ∙ ap (λ z. n.heads.0 ∷ z) q.0)))
-        (subst V (sym q.1) (g.field a x k.0 n.heads.0 n.value p k.3 n.heads.2))
+          let V : Expr → Type 0 = λ z. IsPostfix (a ++ k.0 ∷ n.heads.0 ∷ []) z in
+          subst A (sym (k.2 ∙ ap (λ z. k.0 ∷ z) (n.joined ∙ ap (λ z. z ++ n.second) n.heads.1 ∙ ap (λ z. n.heads.0 ∷ z) q.0)))
+          (subst V (sym q.1) (g.field a x k.0 n.heads.0 n.value p k.3 n.heads.2))
     ]
 
 after_up : (a : List Token) (x : Expr) → IsPostfix a x → (t : Token) → is_square t ≡ true → (b : List Token) (o : Option Expr) → IsOptional b o → (c : List Token) (u : Expr) → AfterIndex x o c u → IsPostfix (a ++ t ∷ (b ++ c)) u
@@ -155,8 +154,20 @@ postfix_to _ _ (g.index a x t b y c p h q i) =
     (inr (t, b ++ c ∷ [], refl, h, record { first = b; second = c ∷ []; value = Some y; joined = refl; heads = g.present b y q; tails = inr (c, refl, i, refl) }))
 postfix_to _ _ (g.slice a x t b o d c z u p h q i r j) =
     one_more a x (postfix_to a x p) (t ∷ (b ++ d ∷ (c ++ u ∷ []))) (slice_tree x o z)
-    (inr (t, b ++ d ∷ (c ++ u ∷ []), refl, h, record { first = b; second = d ∷ (c ++ u ∷ []); value = o; joined = refl; heads = q;
-        tails = inl (d, c ++ u ∷ [], refl, i, (c, z, u, refl, r, j, refl)) }))
+    (inr (
+      t,
+      b ++ d ∷ (c ++ u ∷ []),
+      refl,
+      h,
+      record {
+        first = b;
+        second = d ∷ (c ++ u ∷ []);
+        value = o;
+        joined = refl;
+        heads = q;
+        tails = inl (d, c ++ u ∷ [], refl, i, (c, z, u, refl, r, j, refl));
+      },
+    ))
 postfix_to _ _ (g.field a x d t s p h i) =
     one_more a x (postfix_to a x p) (d ∷ t ∷ []) (field_tree x s)
     (inl (d, t ∷ [], refl, h, record { first = t ∷ []; second = []; value = s; joined = refl; heads = (t, refl, i); tails = inr (refl, refl) }))
@@ -274,26 +285,32 @@ module _ (room : ℕ) (sub : Form → Parser Token Expr) (below : Reads room sub
       (λ a w r k. arguments_open a k.0 r k.1) (λ t h. h)
       (within (nat_le (height_of_expr x + 1) room) (reading.arguments room sub >>= λ xs. pure (method_tree x s xs))) ts
       (λ h. limit_law (Made IsArguments (method_tree x s)) Within is_open is_open (nat_le (height_of_expr x + 1) room)
-          (λ t i. (op_token (codes ")") ∷ [], method_tree x s [], ([], arguments_least t i, refl)))
-          (λ none a v r k j free i. no_room (height_of_expr x + 1) room none (let m = subst Within k.2 j in let n = height-MethodCall (node_of x) (node_of x) x s k.0 in omega arith))
-          (reading.arguments room sub >>= λ xs. pure (method_tree x s xs)) ts h
-          (λ some. made_limited IsArguments is_open (method_tree x s) (FitEach (Low room)) Within (method_carries x s some) ts (reading.arguments room sub ts) (arguments_law room sub below is_open ts)))
+      (λ t i. (op_token (codes ")") ∷ [], method_tree x s [], ([], arguments_least t i, refl)))
+      (λ none a v r k j free i. no_room (height_of_expr x + 1) room none (let m = subst Within k.2 j in let n = height-MethodCall (node_of x) (node_of x) x s k.0 in omega arith))
+      (reading.arguments room sub >>= λ xs. pure (method_tree x s xs)) ts h
+      (λ some. made_limited IsArguments is_open (method_tree x s) (FitEach (Low room)) Within (method_carries x s some) ts (reading.arguments room sub ts) (arguments_law room sub below is_open ts)))
 
   dotted_law : (x : Expr) → Low room x → (ts : List Token) → Law (Dotted x) (Limited (Dotted x) Within) is_open ts (reading.dotted room sub x ts)
   unfolding reading.dotted
   dotted_law x f ts =
       open_limited is_dot (λ _. Then (Picks name_of) (FieldRest x)) Within is_open
-      (λ t h. (x_token ∷ [], field_tree x (codes "x"), (record { first = x_token ∷ []; second = []; value = codes "x"; joined = refl; heads = (x_token, refl, refl); tails = inr (refl, refl) },
-          field_low x (codes "x") f)))
+      (λ t h. (
+        x_token ∷ [],
+        field_tree x (codes "x"),
+        (
+          record { first = x_token ∷ []; second = []; value = codes "x"; joined = refl; heads = (x_token, refl, refl); tails = inr (refl, refl) },
+          field_low x (codes "x") f,
+        ),
+      ))
       ts (λ _. take_by name_of >>= reading.field_rest room sub x)
       (λ t r h i. join_law (Picks name_of) never (FieldRest x) is_open Free_of_limit Within
-          (record {
-            apart = λ a v p c w s q free. free_never (c ++ s);
-            ends = λ a v p. ([], field_tree x v, inr (refl, refl));
-            ends_within = λ a v p j. ([], field_tree x v, (inr (refl, refl), field_low x v f));
-            shrinks = λ a v p c w q j. tt;
-          }) r (take_by name_of r) (take_limited name_of Free_of_limit (λ o. tt) never r) (reading.field_rest room sub x)
-          (λ used v q p j k. field_rest_law x f v q))
+      (record {
+        apart = λ a v p c w s q free. free_never (c ++ s);
+        ends = λ a v p. ([], field_tree x v, inr (refl, refl));
+        ends_within = λ a v p j. ([], field_tree x v, (inr (refl, refl), field_low x v f));
+        shrinks = λ a v p c w q j. tt;
+      }) r (take_by name_of r) (take_limited name_of Free_of_limit (λ o. tt) never r) (reading.field_rest room sub x)
+      (λ used v q p j k. field_rest_law x f v q))
 
   -- ---- in square brackets
 
@@ -305,7 +322,7 @@ module _ (room : ℕ) (sub : Form → Parser Token Expr) (below : Reads room sub
       (λ a w s k. opens form.Whole a k.0 k.1 s) (λ t h. or_first (begins 3 t) (carries 12 t) h)
       (sub form.Whole >>= λ x. pure (Some x)) ts
       (λ h. made_limited IsExpr optional_carries (λ x. Some x) (Low room) (LowOption room) (record { grows = λ x f. f; shrinks = λ x f. f }) ts (sub form.Whole ts)
-          (wider_law IsExpr (Limited IsExpr (Low room)) (carries 12) optional_carries (λ t i. or_none (begins 3 t) (carries 12 t) i) ts (sub form.Whole ts) (below form.Whole ts))))
+      (wider_law IsExpr (Limited IsExpr (Low room)) (carries 12) optional_carries (λ t i. or_none (begins 3 t) (carries 12 t) i) ts (sub form.Whole ts) (below form.Whole ts))))
 
   slice_law : (x : Expr) → Low room x → (o : Option Expr) → LowOption room o → (cont : Token → Bool) (ts : List Token)
       → Law (Sliced x o) (Limited (Sliced x o) Within) cont ts (reading.slice_from room sub x o ts)
@@ -315,7 +332,7 @@ module _ (room : ℕ) (sub : Form → Parser Token Expr) (below : Reads room sub
       (λ t h. (op_token (codes "]") ∷ [], slice_tree x o None, (([], None, op_token (codes "]"), refl, g.absent, refl, refl), slice_low x o None f i tt)))
       ts (λ _. reading.optional room sub >>= λ p. expect is_square_close >> pure (slice_tree x o p))
       (λ t r h j. close_limited is_square_close (op_token (codes "]")) refl IsOptional optional_carries cont close_ends_optional (slice_tree x o) (LowOption room) Within
-          (record { grows = λ p k. slice_low x o p f i k; shrinks = λ p k. (slice_parts x o p k).2 }) r (reading.optional room sub r) (optional_reads r))
+      (record { grows = λ p k. slice_low x o p f i k; shrinks = λ p k. (slice_parts x o p k).2 }) r (reading.optional room sub r) (optional_reads r))
 
   index_law : (x : Expr) → Low room x → (o : Option Expr) → LowOption room o → (cont : Token → Bool) (ts : List Token)
       → Law (IndexAt x o) (Limited (IndexAt x o) Within) cont ts (reading.index_at room sub x o ts)
@@ -347,17 +364,20 @@ module _ (room : ℕ) (sub : Form → Parser Token Expr) (below : Reads room sub
   unfolding reading.indexed
   indexed_law x f cont ts =
       open_limited is_square (λ _. Then IsOptional (AfterIndex x)) Within cont
-      (λ t h. (op_token (codes ":") ∷ op_token (codes "]") ∷ [], slice_tree x None None,
-          (record { first = []; second = op_token (codes ":") ∷ op_token (codes "]") ∷ []; value = None; joined = refl; heads = g.absent; tails = slice_least x None }, slice_low x None None f tt tt)))
+      (λ t h. (
+        op_token (codes ":") ∷ op_token (codes "]") ∷ [],
+        slice_tree x None None,
+        (record { first = []; second = op_token (codes ":") ∷ op_token (codes "]") ∷ []; value = None; joined = refl; heads = g.absent; tails = slice_least x None }, slice_low x None None f tt tt),
+      ))
       ts (λ _. reading.optional room sub >>= λ o. choose is_colon (reading.slice_from room sub x o) (reading.index_at room sub x o))
       (λ t r h i. join_law IsOptional optional_carries (AfterIndex x) cont (LowOption room) Within
-          (record {
-            apart = λ a o p c w s q free. after_apart x o c w s q;
-            ends = λ a o p. (op_token (codes ":") ∷ op_token (codes "]") ∷ [], slice_tree x o None, slice_least x o);
-            ends_within = λ a o p j. (op_token (codes ":") ∷ op_token (codes "]") ∷ [], slice_tree x o None, (slice_least x o, slice_low x o None f j tt));
-            shrinks = λ a o p c w q j. (after_parts x o c w q j).1;
-          }) r (reading.optional room sub r) (optional_reads r) (λ o. choose is_colon (reading.slice_from room sub x o) (reading.index_at room sub x o))
-          (λ used o q p j k. after_law x f o j cont q))
+      (record {
+        apart = λ a o p c w s q free. after_apart x o c w s q;
+        ends = λ a o p. (op_token (codes ":") ∷ op_token (codes "]") ∷ [], slice_tree x o None, slice_least x o);
+        ends_within = λ a o p j. (op_token (codes ":") ∷ op_token (codes "]") ∷ [], slice_tree x o None, (slice_least x o, slice_low x o None f j tt));
+        shrinks = λ a o p c w q j. (after_parts x o c w q j).1;
+      }) r (reading.optional room sub r) (optional_reads r) (λ o. choose is_colon (reading.slice_from room sub x o) (reading.index_at room sub x o))
+      (λ used o q p j k. after_law x f o j cont q))
 
   -- ---- a trailer
 
@@ -366,9 +386,17 @@ module _ (room : ℕ) (sub : Form → Parser Token Expr) (below : Reads room sub
       (x_token ∷ [], field_tree x (codes "x"), inl (t, x_token ∷ [], refl, h, record { first = x_token ∷ []; second = []; value = codes "x"; joined = refl; heads = (x_token, refl, refl); tails = inr (refl, refl) }))
 
   square_viable : (x : Expr) (t : Token) → is_square t ≡ true → Viable (Trailer x) (t ∷ [])
-  square_viable x t h =
-      (op_token (codes ":") ∷ op_token (codes "]") ∷ [], slice_tree x None None, inr (t, op_token (codes ":") ∷ op_token (codes "]") ∷ [], refl, h,
-          record { first = []; second = op_token (codes ":") ∷ op_token (codes "]") ∷ []; value = None; joined = refl; heads = g.absent; tails = slice_least x None }))
+  square_viable x t h = (
+    op_token (codes ":") ∷ op_token (codes "]") ∷ [],
+    slice_tree x None None,
+    inr (
+      t,
+      op_token (codes ":") ∷ op_token (codes "]") ∷ [],
+      refl,
+      h,
+      record { first = []; second = op_token (codes ":") ∷ op_token (codes "]") ∷ []; value = None; joined = refl; heads = g.absent; tails = slice_least x None },
+    ),
+  )
 
   trailer_law : (x : Expr) → Within x → (ts : List Token) → sees is_trailer ts ≡ true → Law (Trailer x) (Limited (Trailer x) Within) is_open ts (reading.trailer room sub x ts)
   unfolding reading.trailer
@@ -378,11 +406,11 @@ module _ (room : ℕ) (sub : Form → Parser Token Expr) (below : Reads room sub
       (λ none a v s k j free i. no_room (height_of_expr x) room none (trailer_parts x a v k j))
       (choose is_dot (reading.dotted room sub x) (reading.indexed room sub x)) ts h
       (λ some. let low = leb-true (height_of_expr x) room some in
-          either_law (Dotted x) (Indexed x) Within is_open is_dot
-          (λ a v s k. ap (λ z. sees is_dot (z ++ s)) k.2 ∙ k.3)
-          (λ a v s k free. ap (λ z. sees is_dot (z ++ s)) k.2 ∙ op_is_no (codes "[") (codes ".") refl k.0 k.3)
-          (reading.dotted room sub x) (reading.indexed room sub x) ts
-          (λ i. dotted_law x low ts) (λ i. indexed_law x low is_open ts))
+      either_law (Dotted x) (Indexed x) Within is_open is_dot
+      (λ a v s k. ap (λ z. sees is_dot (z ++ s)) k.2 ∙ k.3)
+      (λ a v s k free. ap (λ z. sees is_dot (z ++ s)) k.2 ∙ op_is_no (codes "[") (codes ".") refl k.0 k.3)
+      (reading.dotted room sub x) (reading.indexed room sub x) ts
+      (λ i. dotted_law x low ts) (λ i. indexed_law x low is_open ts))
 
   repeated : Repeated (λ _. is_trailer) Trailer (λ _. is_open) (carries 1) Within
   repeated = record {

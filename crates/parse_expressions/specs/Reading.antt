@@ -18,16 +18,16 @@ use Rattle.source_trees.specs.declared.operator.UnaryOp.{UnaryOp}
 use Rattle.source_trees.specs.declared.statement.LoopNames.{LoopNames}
 use Rattle.source_trees.specs.Heights.{height_of_expr}
 use Rattle.parse_laws.specs.declared.cause.Cause.TheVariants.{TooDeep}
-use Rattle.parse_laws.specs.Parser.{Parser, Stopped, pure, refuse, choose, within, expect, take_by, has, in_table, turn, repeat, sort, ◌>>=◌, ◌>>◌}
+use Rattle.parse_laws.specs.Parser.{Parser, Stopped, pure, refuse, choose, within, expect, take_by, has, turn, repeat, sort, ◌>>=◌, ◌>>◌}
 use Rattle.parse_laws.specs.Limits.{bracket}
-use Rattle.parse_laws.specs.Loops.{RowState, rest_of, listed}
+use Rattle.parse_laws.specs.Loops.{rest_of, listed}
 use Rattle.grammar_rules.specs.declared.level.Junction.{Junction}
 use Rattle.grammar_rules.specs.declared.level.Junction.TheVariants as junction
 use Rattle.grammar_rules.specs.declared.level.Rank.{Rank}
 use Rattle.grammar_rules.specs.declared.level.Rank.TheVariants as rank
 use Rattle.grammar_rules.specs.Expressions.{node_of, loop_names}
 use Rattle.grammar_rules.specs.Levels.{word_of, joined, operators, signs, comparators}
-use Rattle.grammar_rules.specs.Words.{is_op, is_keyword, is_word, is_comma, number_in, text_in, number_of, text_of, name_of, look_up, node_at, name_at, most_items}
+use Rattle.grammar_rules.specs.Words.{is_op, is_keyword, is_word, is_comma, text_of, name_of, look_up, node_at, name_at, most_items}
 use Rattle.parse_expressions.specs.declared.form.Form.{Form}
 use Rattle.parse_expressions.specs.declared.form.Form.TheVariants as form
 use Rattle.parse_expressions.specs.Forms.{opening, begins}
