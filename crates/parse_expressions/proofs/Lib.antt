@@ -13,3 +13,4 @@ pub mod Flat
 pub mod Conditions
 pub mod Junctions
 pub mod Wholes
+pub mod Types
