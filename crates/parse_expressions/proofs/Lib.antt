@@ -13,4 +13,6 @@ pub mod Flat
 pub mod Conditions
 pub mod Junctions
 pub mod Wholes
+pub mod TypeHeights
 pub mod Types
+pub mod TypeLaw

@@ -1,4 +1,4 @@
--- The law of types at every height.
+-- What the grammar says of types, by what they begin with.
 use Rattle.std.proofs.Common.{◌≡◌, ℕ, zero, suc, ◌+◌, ◌≤◌, max, nat_le, nat_lt, Bool, true, false, not, if◌then◌else◌, ◌||◌, ◌&&◌, List, [], ◌∷◌, ◌++◌, length, map, refl, sym, ◌∙◌, ap, subst, Option, Some, None, codes, inl, inr, ◌⊎◌, append_assoc, arith}
 use Rattle.std.proofs.lemmas.List.{append-nil, length-append}
 use Rattle.std.proofs.lemmas.Bool.{ltb-true, lt-ltb}
@@ -36,67 +36,16 @@ use Rattle.parse_expressions.proofs.Opens.{x_token, op_token, name_spelling}
 use Rattle.parse_expressions.proofs.Lows.{room_true, no_room}
 use Rattle.parse_expressions.proofs.Leaves.{Free_of_limit}
 
--- ---- heights
-
-height-Int : (n : Node) → height_of_annotation (annotation.Int n) ≡ 1
-unfolding of_annotation
-height-Int n = ap height_of_annotation (sym (annotation.rolls-Int n)) ∙ fold-roll-Annotation ℕ (annotation_step over_parts) (Annotation-F.Int n)
-
-height-Bool : (n : Node) → height_of_annotation (annotation.Bool n) ≡ 1
-unfolding of_annotation
-height-Bool n = ap height_of_annotation (sym (annotation.rolls-Bool n)) ∙ fold-roll-Annotation ℕ (annotation_step over_parts) (Annotation-F.Bool n)
-
-height-Str : (n : Node) → height_of_annotation (annotation.Str n) ≡ 1
-unfolding of_annotation
-height-Str n = ap height_of_annotation (sym (annotation.rolls-Str n)) ∙ fold-roll-Annotation ℕ (annotation_step over_parts) (Annotation-F.Str n)
-
-height-None : (n : Node) → height_of_annotation (annotation.None n) ≡ 1
-unfolding of_annotation
-height-None n = ap height_of_annotation (sym (annotation.rolls-None n)) ∙ fold-roll-Annotation ℕ (annotation_step over_parts) (Annotation-F.None n)
-
-height-Class : (n : Node) (s : List ℕ) → height_of_annotation (annotation.Class n s) ≡ 1
-unfolding of_annotation
-height-Class n s = ap height_of_annotation (sym (annotation.rolls-Class n s)) ∙ fold-roll-Annotation ℕ (annotation_step over_parts) (Annotation-F.Class n s)
-
-height-List : (n : Node) (x : Annotation) → height_of_annotation (annotation.List n x) ≡ max (height_of_annotation x) 0 + 1
-unfolding of_annotation
-height-List n x = ap height_of_annotation (sym (annotation.rolls-List n x)) ∙ fold-roll-Annotation ℕ (annotation_step over_parts) (Annotation-F.List n x)
-
-height-Tuple : (n : Node) (xs : List Annotation) → height_of_annotation (annotation.Tuple n xs) ≡ highest (map height_of_annotation xs) + 1
-unfolding of_annotation
-height-Tuple n xs = ap height_of_annotation (sym (annotation.rolls-Tuple n xs)) ∙ fold-roll-Annotation ℕ (annotation_step over_parts) (Annotation-F.Tuple n xs)
-
-step_positive : (q : Annotation-F ℕ) → 1 ≤ annotation_step over_parts q
-step_positive (Annotation-F.Int n) = omega arith
-step_positive (Annotation-F.Bool n) = omega arith
-step_positive (Annotation-F.Str n) = omega arith
-step_positive (Annotation-F.None n) = omega arith
-step_positive (Annotation-F.Class n s) = omega arith
-step_positive (Annotation-F.List n x) = omega arith
-step_positive (Annotation-F.Tuple n xs) = omega arith
-
-pub type_positive : (x : Annotation) → 1 ≤ height_of_annotation x
-unfolding of_annotation
-type_positive x = let P : ℕ → Type 0 = λ z. 1 ≤ z in subst P (sym (fold_out-Annotation ℕ (annotation_step over_parts) x)) (step_positive _)
-
-types_up : (n : ℕ) (xs : List Annotation) → FitEach (LowType n) xs → highest (map height_of_annotation xs) ≤ n
-types_up n [] f = omega arith
-types_up n (x ∷ xs) f = let i = f.0 in let k = types_up n xs f.1 in omega arith
-
-types_down : (n : ℕ) (xs : List Annotation) → highest (map height_of_annotation xs) ≤ n → FitEach (LowType n) xs
-types_down n [] h = tt
-types_down n (x ∷ xs) h = (omega arith, types_down n xs (omega arith))
-
 -- ---- what the grammar says, by its parts
 
-abbrev TypeItem : Language Token Annotation
+abbrev pub TypeItem : Language Token Annotation
 TypeItem = Opens is_comma (λ _. IsType)
 
 -- one more type after a comma, where one may follow
-abbrev Step : List Annotation → Language Token (List Annotation)
+abbrev pub Step : List Annotation → Language Token (List Annotation)
 Step v a w = Made TypeItem (λ y. v ++ y ∷ []) a w × (few_types v ≡ true)
 
-abbrev TypeRow : Language Token (List Annotation)
+abbrev pub TypeRow : Language Token (List Annotation)
 TypeRow = Then IsType (λ x. Turns Step (x ∷ []))
 
 turns_of_types : (v : List Annotation) (comma : Token) → is_comma comma ≡ true → (b : List Token) (ys : List Annotation) → IsTypes b ys → length v + length ys ≤ most_items
@@ -164,19 +113,19 @@ row_from a xs k =
     let A : List Token → Type 0 = λ z. IsTypes z xs × (length xs ≤ most_items) in
     subst A (sym k.joined) (row_made k.first k.value k.heads k.second xs (given_of_turns (k.value ∷ []) k.second xs k.tails))
 
-abbrev Bracket : {A : Type 0} → Language Token A → (A → Annotation) → Language Token Annotation
+abbrev pub Bracket : {A : Type 0} → Language Token A → (A → Annotation) → Language Token Annotation
 Bracket L f = Opens is_square (λ _. Closes L is_square_close f)
 
-abbrev Rest : {A : Type 0} → Language Token A → (Node → A → Annotation) → Name → Language Token Annotation
+abbrev pub Rest : {A : Type 0} → Language Token A → (Node → A → Annotation) → Name → Language Token Annotation
 Rest L f name = Either (Bracket L (f name.node)) (Is (class_tree name))
 
-abbrev list_tree : Node → Annotation → Annotation
+abbrev pub list_tree : Node → Annotation → Annotation
 list_tree n x = annotation.List n x
 
-abbrev tuple_tree : Node → List Annotation → Annotation
+abbrev pub tuple_tree : Node → List Annotation → Annotation
 tuple_tree n xs = annotation.Tuple n xs
 
-abbrev TypeFrom : TypeStart → Language Token Annotation
+abbrev pub TypeFrom : TypeStart → Language Token Annotation
 TypeFrom Simple = Picks simple_type
 TypeFrom ListWord = Then (Picks (named_if is_list_word)) (Rest IsType list_tree)
 TypeFrom TupleWord = Then (Picks (named_if is_tuple_word)) (Rest TypeRow tuple_tree)
@@ -300,7 +249,7 @@ tuple_up a v w =
         subst A (sym (w.joined ∙ ap (λ z. z ++ w.second) w.heads.1 ∙ ap (λ z. t ∷ z) k.0)) (subst V (sym k.1) (rest_class t w.value p.1 (tuple_no_type t p.0)))
     ]
 
-type_up : (c : TypeStart) (a : List Token) (v : Annotation) → TypeFrom c a v → IsType a v
+pub type_up : (c : TypeStart) (a : List Token) (v : Annotation) → TypeFrom c a v → IsType a v
 type_up Simple a v w = let A : List Token → Type 0 = λ z. IsType z v in subst A (sym w.1) (simple_up w.0 (w.0).kind refl v w.2)
 type_up ListWord a v w = list_up a v w
 type_up TupleWord a v w = tuple_up a v w
@@ -354,7 +303,7 @@ class_down t spelling f p false false h i l =
     by_start Simple t (ap type_start_in f ∙ ap (λ z. if z then ListWord else if is_tuple_spelling spelling then TupleWord else Simple) h ∙ ap (λ z. if z then TupleWord else Simple) i)
     (t ∷ []) (annotation.Class (node_at t) spelling) (t, refl, ap (simple_in (node_at t)) f ∙ ap (λ z. Some z) e) l
 
-type_down : (a : List Token) (v : Annotation) (s : List Token) → IsType a v → From (a ++ s) a v
+pub type_down : (a : List Token) (v : Annotation) (s : List Token) → IsType a v → From (a ++ s) a v
 type_down _ _ s (g.int t h) = by_start Simple t (ap type_start_in (word_kind (codes "int") t h)) (t ∷ []) (annotation.Int (node_at t)) (t, refl, ap (simple_in (node_at t)) (word_kind (codes "int") t h)) s
 type_down _ _ s (g.bool t h) = by_start Simple t (ap type_start_in (word_kind (codes "bool") t h)) (t ∷ []) (annotation.Bool (node_at t)) (t, refl, ap (simple_in (node_at t)) (word_kind (codes "bool") t h)) s
 type_down _ _ s (g.str t h) = by_start Simple t (ap type_start_in (word_kind (codes "str") t h)) (t ∷ []) (annotation.Str (node_at t)) (t, refl, ap (simple_in (node_at t)) (word_kind (codes "str") t h)) s
