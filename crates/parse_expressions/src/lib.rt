@@ -1,6 +1,8 @@
 //! The parser of types and expressions: the first token that no text goes on with is refused, and what is read is the one tree of its tokens.
 #![tactic(auto)]
 
+mod cursor;
 mod form;
 
+pub use cursor::{Cursor, ParseError, is_keyword, is_op, is_word, node_at};
 pub use form::Form;
