@@ -25,8 +25,10 @@ use Rattle.grammar_rules.specs.Words.{op_in, keyword_in, number_in, is_comma, na
 use Rattle.parse_expressions.specs.declared.form.Form.{Form}
 use Rattle.parse_expressions.specs.declared.form.Form.TheVariants as form
 use Rattle.parse_expressions.specs.Forms.{Low}
+use Rattle.parse_expressions.specs.declared.start.Start.{Start}
+use Rattle.parse_expressions.specs.declared.start.Start.TheVariants.{Named, Leaf, Texts, Round, Square, Nowhere}
 use Rattle.parse_expressions.specs.Reading as reading
-use Rattle.parse_expressions.specs.Reading.{Start, Named, Leaf, Texts, Round, Square, Nowhere, start_in, start_of, leaf_in, leaf_of, text_from, text_at, constant, round_tree, is_open, is_close, is_square, is_text, few, name_tree, call_tree, plain_at, any_number}
+use Rattle.parse_expressions.specs.Reading.{start_in, start_of, leaf_in, leaf_of, text_from, text_at, constant, round_tree, is_open, is_close, is_square, is_text, few, name_tree, call_tree, plain_at, any_number}
 use Rattle.parse_expressions.proofs.Tokens.{or_second, op_kind, keyword_kind, name_kind, number_kind, text_kind, plain_name}
 use Rattle.parse_expressions.proofs.Opens.{x_token, x_tree, op_token, name_spelling}
 use Rattle.parse_expressions.proofs.Least.{least}

@@ -29,8 +29,10 @@ use Rattle.grammar_rules.specs.Types as g
 use Rattle.grammar_rules.specs.Types.{IsType, IsTypes, is_type_word, is_list_word, is_tuple_word}
 use Rattle.grammar_rules.specs.Words.{op_in, keyword_in, name_in, named_by, is_spelled, is_op, is_keyword, is_word, is_comma, name_of, node_at, name_at, most_items}
 use Rattle.parse_expressions.specs.Reading.{is_square, is_square_close}
+use Rattle.parse_expressions.specs.declared.start.TypeStart.{TypeStart}
+use Rattle.parse_expressions.specs.declared.start.TypeStart.TheVariants.{Simple, ListWord, TupleWord, Nowhere}
 use Rattle.parse_expressions.specs.TypeReading as reading
-use Rattle.parse_expressions.specs.TypeReading.{LowType, TypeStart, Simple, ListWord, TupleWord, Nowhere, is_list_spelling, is_tuple_spelling, type_start_in, type_start, named_type, simple_in, simple_type, type_begins_in, type_begins, named_if, few_types, more_types, class_tree}
+use Rattle.parse_expressions.specs.TypeReading.{LowType, is_list_spelling, is_tuple_spelling, type_start_in, type_start, named_type, simple_in, simple_type, type_begins_in, type_begins, named_if, few_types, more_types, class_tree}
 use Rattle.parse_expressions.proofs.Tokens.{bytes_equal, op_kind, keyword_kind, name_kind, or_first, or_second, or_none, and_first, and_second}
 use Rattle.parse_expressions.proofs.Opens.{x_token, op_token, name_spelling}
 use Rattle.parse_expressions.proofs.Lows.{room_true, no_room}

@@ -29,6 +29,8 @@ use Rattle.grammar_rules.specs.Expressions.{node_of, loop_names}
 use Rattle.grammar_rules.specs.Levels.{word_of, joined, operators, signs, comparators}
 use Rattle.grammar_rules.specs.Words.{is_op, is_keyword, is_word, is_comma, text_of, name_of, look_up, node_at, name_at, most_items}
 use Rattle.parse_expressions.specs.declared.form.Form.{Form}
+use Rattle.parse_expressions.specs.declared.start.Start.{Start}
+use Rattle.parse_expressions.specs.declared.start.Start.TheVariants.{Named, Leaf, Texts, Round, Square, Nowhere}
 use Rattle.parse_expressions.specs.declared.form.Form.TheVariants as form
 use Rattle.parse_expressions.specs.Forms.{opening, begins}
 
@@ -81,9 +83,6 @@ abbrev pub is_text : Token → Bool
 is_text = has text_of
 
 -- ---- what an atom begins with
-
-pub data Start : Type 0 where
-  Named Leaf Texts Round Square Nowhere : Start
 
 abbrev pub start_of_op : List ℕ → Start
 start_of_op spelling = if bytes_eq spelling (codes "(") then Round else if bytes_eq spelling (codes "[") then Square else Nowhere

@@ -13,6 +13,8 @@ use Rattle.parse_laws.specs.declared.cause.Cause.TheVariants.{TooDeep}
 use Rattle.parse_laws.specs.Parser.{Parser, Stopped, pure, refuse, choose, within, expect, take_by, has, repeat, sort, ◌>>=◌, ◌>>◌}
 use Rattle.grammar_rules.specs.Types.{is_list_word, is_tuple_word}
 use Rattle.grammar_rules.specs.Words.{is_keyword, is_comma, node_at, name_at, most_items}
+use Rattle.parse_expressions.specs.declared.start.TypeStart.{TypeStart}
+use Rattle.parse_expressions.specs.declared.start.TypeStart.TheVariants.{Simple, ListWord, TupleWord, Nowhere}
 use Rattle.parse_expressions.specs.Reading.{is_square, is_square_close}
 
 -- the type has at most this height
@@ -20,9 +22,6 @@ abbrev pub LowType : ℕ → Annotation → Type 0
 LowType room x = height_of_annotation x ≤ room
 
 -- ---- what a type begins with
-
-pub data TypeStart : Type 0 where
-  Simple ListWord TupleWord Nowhere : TypeStart
 
 abbrev pub is_list_spelling : List ℕ → Bool
 is_list_spelling spelling = bytes_eq spelling (codes "list") || bytes_eq spelling (codes "List")

@@ -1,4 +1,5 @@
-ghost use Rattle.std.specs.Prelude.{◌≡◌, length};
+ghost use Rattle.std.specs.Prelude.{◌≡◌, List, [], ◌∷◌, length, MatchOption};
+ghost use Rattle.std.specs.Str.{bytes_eq};
 ghost use Rattle.grammar_rules.specs.Words.{is_op, is_keyword, is_word, node_at};
 ghost use Rattle.parse_laws.specs.Parser.{sees, expect};
 ghost use Rattle.parse_expressions.specs.Code.{ReadsToken};
@@ -6,7 +7,7 @@ ghost use Rattle.parse_expressions.specs.Code.{ReadsToken};
 use indent_lexer::{Token, TokenKind};
 use parse_laws::Cause;
 use source_trees::Node;
-use codon_base::NodeId;
+use codon_base::{NodeId, Spelling};
 use std::alloc::AllocError;
 use std::marker::Model;
 
@@ -56,6 +57,13 @@ impl<'a> Cursor<'a> {
         ensures { result ≡ length self.now }
     {
         self.rest.len()
+    }
+
+    /// The next token.
+    pub fn first(&self) -> Option<&'a Token>
+        ensures { MatchOption result (self.now ≡ []) (λ t. (rest : List Token) × (self.now ≡ t.now ∷ rest)) }
+    {
+        self.rest.first()
     }
 
     /// Whether the next token is this operator.
@@ -113,12 +121,19 @@ impl<'a> Cursor<'a> {
     }
 }
 
+/// Whether the spelling is this word.
+pub fn spells(spelling: &Spelling, word: &[u8]) -> bool
+    ensures { result ≡ bytes_eq spelling.now word.now }
+{
+    spelling.as_slice() == word
+}
+
 /// Whether the token is this operator.
 pub fn is_op(token: &Token, word: &[u8]) -> bool
     ensures { result ≡ is_op word.now token.now }
 {
     match &token.kind {
-        TokenKind::Op(spelling) => spelling.as_slice() == word,
+        TokenKind::Op(spelling) => spells(spelling, word),
         _ => false,
     }
 }
@@ -128,7 +143,7 @@ pub fn is_keyword(token: &Token, word: &[u8]) -> bool
     ensures { result ≡ is_keyword word.now token.now }
 {
     match &token.kind {
-        TokenKind::Keyword(spelling) => spelling.as_slice() == word,
+        TokenKind::Keyword(spelling) => spells(spelling, word),
         _ => false,
     }
 }
@@ -138,7 +153,7 @@ pub fn is_word(token: &Token, word: &[u8]) -> bool
     ensures { result ≡ is_word word.now token.now }
 {
     match &token.kind {
-        TokenKind::Name(spelling) => spelling.as_slice() == word,
+        TokenKind::Name(spelling) => spells(spelling, word),
         _ => false,
     }
 }

@@ -3,6 +3,8 @@
 
 mod cursor;
 mod form;
+mod start;
 
 pub use cursor::{Cursor, ParseError, is_keyword, is_op, is_word, node_at};
 pub use form::Form;
+pub use start::{Start, TypeStart};
