@@ -1,4 +1,4 @@
-ghost use Rattle.std.specs.Prelude.{◌≡◌, List, [], ◌∷◌, length, MatchOption};
+ghost use Rattle.std.specs.Prelude.{◌≡◌, List, [], ◌∷◌, length, drop, MatchOption};
 ghost use Rattle.std.specs.Str.{bytes_eq};
 ghost use Rattle.grammar_rules.specs.Words.{is_op, is_keyword, is_word, node_at};
 ghost use Rattle.parse_laws.specs.Parser.{sees, expect};
@@ -64,6 +64,15 @@ impl<'a> Cursor<'a> {
         ensures { MatchOption result (self.now ≡ []) (λ t. (rest : List Token) × (self.now ≡ t.now ∷ rest)) }
     {
         self.rest.first()
+    }
+
+    /// Passes the next token, if there is one.
+    pub fn skip(&mut self)
+        ensures { self.new ≡ drop 1 self.old }
+    {
+        if let [_, rest @ ..] = self.rest {
+            self.rest = rest;
+        }
     }
 
     /// Whether the next token is this operator.
