@@ -113,3 +113,25 @@ height-Compare n x cs = ap height_of_expr (sym (e.rolls-Compare n x cs)) ∙ fol
 pub height_of_comparison : (c : Comparison) → of_comparison over_parts c ≡ height_of_expr c.right
 unfolding of_expr of_comparison
 height_of_comparison c = fold_out-Comparison ℕ ℕ (expr_step over_parts) (comparison_step over_parts) c
+
+pub ruleset known_heights = (
+  height-Name,
+  height-Number,
+  height-Text,
+  height-True,
+  height-False,
+  height-None,
+  height-Bracketed,
+  height-Tuple,
+  height-List,
+  height-Conditional,
+  height-Or,
+  height-And,
+  height-Not,
+  height-Unary,
+  height-Binary,
+  height-Call,
+  height-MethodCall,
+  height-Index,
+  height-Field,
+)

@@ -102,3 +102,13 @@ no_room k n h l = let i : nat_le k n ≡ true = le-leb k n l in cc
 -- the least tree
 pub x_low : (n : ℕ) → 1 ≤ n → Low n x_tree
 x_low n h = let k = height-Name (node_at x_token) (codes "x") in omega arith
+
+-- ---- one more part
+
+pub highest_push : (xs : List Expr) (y : Expr) → highest (map height_of_expr (xs ++ y ∷ [])) ≡ max (highest (map height_of_expr xs)) (height_of_expr y)
+highest_push [] y = omega arith
+highest_push (x ∷ xs) y = let k = highest_push xs y in omega arith
+
+pub comparisons_push : (cs : List Comparison) (d : Comparison) → highest (map (of_comparison over_parts) (cs ++ d ∷ [])) ≡ max (highest (map (of_comparison over_parts) cs)) (height_of_expr d.right)
+comparisons_push [] d = let e = height_of_comparison d in omega arith
+comparisons_push (c ∷ cs) d = let k = comparisons_push cs d in omega arith

@@ -4,6 +4,7 @@
 mod cursor;
 mod form;
 mod leaf;
+mod measured;
 mod start;
 
 pub use cursor::{Cursor, ParseError, is_keyword, is_op, is_word, node_at};
