@@ -135,3 +135,5 @@ pub ruleset known_heights = (
   height-Index,
   height-Field,
 )
+
+pub ruleset compare_known = (height-Compare)

@@ -7,13 +7,14 @@ ghost use Rattle.parse_expressions.specs.Forms.{row_of, opening_ops, opening_wor
 ghost use Rattle.parse_expressions.specs.Reading.{plain_at, constant, leaf_of, text_at, sign_at, in_or_symbol, compares, is_name, is_text};
 ghost use Rattle.parse_expressions.specs.Code.{Reads};
 
+use crate::measured::{self, Measured};
 use crate::Cursor;
 use crate::cursor::{ParseError, is_keyword, is_word, node_at, spells};
 use codon_base::Spelling;
 use grammar_rules::Rank;
 use indent_lexer::{Token, TokenKind};
 use parse_laws::Cause;
-use source_trees::{BinaryOp, Comparator, Expr, Name, Node, UnaryOp};
+use source_trees::{BinaryOp, Comparator, Name, Node, UnaryOp};
 use sqlite_items::Items;
 use std::alloc::{AllocError, Global};
 
@@ -34,26 +35,26 @@ fn name_at(alloc: Global, token: &Token) -> Result<Option<Name>, AllocError>
 }
 
 /// The tree of a number or a constant, where the token is one.
-fn leaf_of(token: &Token) -> Option<Expr>
+fn leaf_of(token: &Token) -> Option<Measured>
     ensures { result ≡ leaf_of token.now }
 {
     let node = node_at(token);
     match &token.kind {
-        TokenKind::Number(value) => Some(Expr::Number(node, *value)),
+        TokenKind::Number(value) => Some(measured::number(node, *value)),
         TokenKind::Keyword(spelling) => constant(node, spelling),
         _ => None,
     }
 }
 
-fn constant(node: Node, spelling: &Spelling) -> Option<Expr>
+fn constant(node: Node, spelling: &Spelling) -> Option<Measured>
     ensures { result ≡ constant node spelling.now }
 {
     if spells(spelling, b"True".as_slice()) {
-        Some(Expr::True(node))
+        Some(measured::truth(node))
     } else if spells(spelling, b"False".as_slice()) {
-        Some(Expr::False(node))
+        Some(measured::falsity(node))
     } else if spells(spelling, b"None".as_slice()) {
-        Some(Expr::None(node))
+        Some(measured::nothing(node))
     } else {
         None
     }
@@ -263,7 +264,7 @@ impl<'a> Cursor<'a> {
     }
 
     /// Takes a number or a constant.
-    pub fn take_leaf(&mut self) -> Result<Expr, ParseError>
+    pub fn take_leaf(&mut self) -> Result<Measured, ParseError>
         ensures { Reads (take_by leaf_of self.old) result self.new }
     {
         let Some(first) = self.first() else {
