@@ -16,3 +16,4 @@ pub mod Wholes
 pub mod TypeHeights
 pub mod Types
 pub mod TypeLaw
+pub mod Counting

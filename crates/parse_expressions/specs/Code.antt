@@ -6,7 +6,10 @@ use Rattle.indent_lexer.specs.declared.token.Token.{Token}
 use Rattle.parse_laws.specs.Parser.{Outcome, Parsed, Stopped}
 use Rattle.parse_expressions.specs.declared.cursor.ParseError.{ParseError}
 use Rattle.parse_expressions.specs.declared.cursor.ParseError.TheVariants.{Memory, Refused}
-use denote.Ref.{Bor}
+use denote.Ref.{Bor, MutBor}
+use Rattle.source_trees.specs.declared.expression.Expr.{Expr}
+use Rattle.parse_expressions.specs.declared.form.Form.{Form}
+use Rattle.parse_expressions.specs.Reading.{read}
 
 abbrev pub IsStop : {A : Type 0} → Outcome Token A → ParseError → List Token → Type 0
 IsStop out Memory rest = Unit {0}
@@ -20,3 +23,10 @@ Reads out (Err e) rest = IsStop out e rest
 abbrev pub ReadsToken : Outcome Token Token → Result (Bor Token) ParseError → List Token → Type 0
 ReadsToken out (Ok t) rest = out ≡ Parsed t.now rest
 ReadsToken out (Err e) rest = IsStop out e rest
+
+-- a function value that reads the forms whose trees are at most `room` high
+pub record Subs (room : ℕ) (pre : Global → MutBor (List Token) → ℕ → Form → Type 0)
+    (post : Global → MutBor (List Token) → ℕ → Form → Result Expr ParseError → MutBor (List Token) → Type 0) : Type 0 where
+  pub callable : (alloc : Global) (old : MutBor (List Token)) (f : Form) → pre alloc old room f
+  pub reads : (alloc : Global) (old new : MutBor (List Token)) (f : Form) (r : Result Expr ParseError) → post alloc old room f r new
+      → Reads (read room f old.now) r new.now

@@ -168,6 +168,11 @@ few xs = nat_lt (length xs) most_items
 abbrev pub any_number : {A : Type 0} → List A → Bool
 any_number xs = true
 
+-- the limit of a row, if it has one
+abbrev pub limit_of : Bool → List Expr → Bool
+limit_of true = few
+limit_of false = any_number
+
 -- ---- parts that hold no expression
 
 unfoldable pub names : Parser Token LoopNames

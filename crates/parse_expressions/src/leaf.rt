@@ -221,14 +221,21 @@ fn opened_by_word(spelling: &Spelling) -> u8
     }
 }
 
+/// Whether the token begins an expression of this tightness: 1 for an atom, 2 with signs, 3 with `not`.
+pub fn begins(token: &Token, opening: u8) -> bool
+    ensures { result ≡ begins opening token.now }
+{
+    opened_by(&token.kind) <= opening
+}
+
 impl<'a> Cursor<'a> {
-    /// Whether the next token begins an expression of this tightness: 1 for an atom, 2 with signs, 3 with `not`.
+    /// Whether the next token begins an expression of this tightness.
     pub fn begins(&self, opening: u8) -> bool
         ensures { result ≡ sees (begins opening) self.now }
     {
         match self.first() {
             None => false,
-            Some(first) => opened_by(&first.kind) <= opening,
+            Some(first) => begins(first, opening),
         }
     }
 

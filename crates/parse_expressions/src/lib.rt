@@ -5,6 +5,7 @@ mod cursor;
 mod form;
 mod leaf;
 mod measured;
+mod reader;
 mod start;
 
 pub use cursor::{Cursor, ParseError, is_keyword, is_op, is_word, node_at};
