@@ -1,6 +1,6 @@
 #![tactic(auto, using(crate::proofs::Heights::known_heights))]
 
-ghost use Rattle.std.specs.Prelude.{◌≡◌, ◌≤◌, ◌<◌, ◌^◌, ◌++◌, [], ◌∷◌, IfOk, IsTrue, ◌↔◌, map, length};
+ghost use Rattle.std.specs.Prelude.{◌≡◌, ◌≤◌, ◌<◌, ◌^◌, ◌++◌, [], ◌∷◌, ◌≢◌, IfOk, IfErr, IsTrue, ◌↔◌, map, length, min};
 ghost use Rattle.source_trees.specs.Heights.{height_of_expr, highest, over_parts};
 ghost use Rattle.source_trees.specs.Parts.{of_comparison};
 ghost use Rattle.grammar_rules.specs.Levels.{joined};
@@ -14,7 +14,7 @@ use sqlite_items::{Boxed, Items};
 use std::alloc::{AllocError, Global};
 use std::marker::Model;
 
-/// A tree and its height, which is kept so that no tree is walked. Contracts see the tree.
+/// A tree and its height, which is kept so that no tree is walked, up to the greatest number of its type. Contracts see the tree.
 #[derive(Drop)]
 pub struct Measured {
     tree: Expr,
@@ -22,11 +22,12 @@ pub struct Measured {
 }
 
 impl Model for Measured {
-    ghost use Rattle.std.specs.Prelude.{◌≡◌};
+    ghost use Rattle.std.specs.Prelude.{◌≡◌, min};
     ghost use Rattle.source_trees.specs.declared.expression.Expr.{Expr};
     ghost use Rattle.source_trees.specs.Heights.{height_of_expr};
     ghost use Rattle.source_trees.specs.contracts.expression.Expr as e;
     ghost use Rattle.std.specs.Coded.{codes};
+    ghost use Rattle.std.below.core.specs.declared.int.usize.TheConstants.{MAX};
 
     ghost Value = { Expr };
 
@@ -34,7 +35,7 @@ impl Model for Measured {
 
     ghost view = { λ m. m.tree };
 
-    ghost invariant = { λ m. m.height ≡ height_of_expr m.tree };
+    ghost invariant = { λ m. m.height ≡ min (height_of_expr m.tree) MAX };
 }
 
 /// Trees side by side, and the greatest of their heights. Contracts see the list of the trees.
@@ -45,11 +46,12 @@ pub struct Row {
 }
 
 impl Model for Row {
-    ghost use Rattle.std.specs.Prelude.{◌≡◌, List, map};
+    ghost use Rattle.std.specs.Prelude.{◌≡◌, List, map, min};
     ghost use Rattle.source_trees.specs.declared.expression.Expr.{Expr};
     ghost use Rattle.source_trees.specs.Heights.{highest, height_of_expr};
     ghost use Rattle.source_trees.specs.contracts.expression.Expr as e;
     ghost use Rattle.std.specs.Coded.{codes};
+    ghost use Rattle.std.below.core.specs.declared.int.usize.TheConstants.{MAX};
 
     ghost Value = { List Expr };
 
@@ -57,7 +59,7 @@ impl Model for Row {
 
     ghost view = { λ r. r.items };
 
-    ghost invariant = { λ r. r.height ≡ highest (map height_of_expr r.items) };
+    ghost invariant = { λ r. r.height ≡ min (highest (map height_of_expr r.items)) MAX };
 }
 
 /// Comparisons side by side, and the greatest height of their right operands. Contracts see the list of the comparisons.
@@ -68,12 +70,13 @@ pub struct Comparisons {
 }
 
 impl Model for Comparisons {
-    ghost use Rattle.std.specs.Prelude.{◌≡◌, List, map};
+    ghost use Rattle.std.specs.Prelude.{◌≡◌, List, map, min};
     ghost use Rattle.source_trees.specs.declared.expression.Comparison.{Comparison};
     ghost use Rattle.source_trees.specs.Heights.{highest, over_parts};
     ghost use Rattle.source_trees.specs.Parts.{of_comparison};
     ghost use Rattle.source_trees.specs.contracts.expression.Expr as e;
     ghost use Rattle.std.specs.Coded.{codes};
+    ghost use Rattle.std.below.core.specs.declared.int.usize.TheConstants.{MAX};
 
     ghost Value = { List Comparison };
 
@@ -81,7 +84,7 @@ impl Model for Comparisons {
 
     ghost view = { λ r. r.items };
 
-    ghost invariant = { λ r. r.height ≡ highest (map (of_comparison over_parts) r.items) };
+    ghost invariant = { λ r. r.height ≡ min (highest (map (of_comparison over_parts) r.items)) MAX };
 }
 
 impl Measured {
@@ -126,7 +129,7 @@ impl Measured {
 
     /// The height of the tree.
     pub fn height(&self) -> usize
-        ensures { result ≡ height_of_expr self.now }
+        ensures { result ≡ min (height_of_expr self.now) usize.MAX }
     {
         self.height
     }
@@ -151,7 +154,7 @@ impl Row {
 
     /// The greatest height.
     pub fn height(&self) -> usize
-        ensures { result ≡ highest (map height_of_expr self.now) }
+        ensures { result ≡ min (highest (map height_of_expr self.now)) usize.MAX }
     {
         self.height
     }
@@ -168,6 +171,23 @@ impl Row {
     }
 }
 
+impl Row {
+    /// The only tree of the row, or the row back where it is not of one tree.
+    pub fn single(self) -> Result<Measured, Row>
+        ensures one { IfOk result (λ x. self ≡ x ∷ []) }
+        ensures other { IfErr result (λ r. (r ≡ self) × (length self ≢ 1)) }
+    {
+        if self.items.len() != 1 {
+            return Err(self);
+        }
+        let Row { mut items, height } = self;
+        match items.pop() {
+            Some(tree) => Ok(Measured { tree, height }),
+            None => Err(Row { items, height }),
+        }
+    }
+}
+
 impl Comparisons {
     pub fn new(alloc: Global) -> Comparisons
         ensures { result ≡ [] }
@@ -180,7 +200,7 @@ impl Comparisons {
 
     /// The greatest height of a right operand.
     pub fn height(&self) -> usize
-        ensures { result ≡ highest (map (of_comparison over_parts) self.now) }
+        ensures { result ≡ min (highest (map (of_comparison over_parts) self.now)) usize.MAX }
     {
         self.height
     }
@@ -270,10 +290,9 @@ pub fn nothing(node: Node) -> Measured
 
 /// An expression in round brackets.
 pub fn bracketed(alloc: Global, node: Node, inner: Measured) -> Result<Measured, AllocError>
-    requires { height_of_expr inner < 2 ^ 32 }
     ensures { IfOk result (λ x. x ≡ Expr.Bracketed node inner) }
 {
-    let height = inner.height() + 1;
+    let height = inner.height().saturating_add(1);
     Ok(Measured {
         tree: Expr::Bracketed(node, Boxed::new(alloc, inner.into_tree())?),
         height,
@@ -282,10 +301,9 @@ pub fn bracketed(alloc: Global, node: Node, inner: Measured) -> Result<Measured,
 
 /// `not operand`.
 pub fn inverse(alloc: Global, node: Node, operand: Measured) -> Result<Measured, AllocError>
-    requires { height_of_expr operand < 2 ^ 32 }
     ensures { IfOk result (λ x. x ≡ Expr.Not node operand) }
 {
-    let height = operand.height() + 1;
+    let height = operand.height().saturating_add(1);
     Ok(Measured {
         tree: Expr::Not(node, Boxed::new(alloc, operand.into_tree())?),
         height,
@@ -294,10 +312,9 @@ pub fn inverse(alloc: Global, node: Node, operand: Measured) -> Result<Measured,
 
 /// An operand with a sign before it.
 pub fn unary(alloc: Global, node: Node, op: UnaryOp, operand: Measured) -> Result<Measured, AllocError>
-    requires { height_of_expr operand < 2 ^ 32 }
     ensures { IfOk result (λ x. x ≡ Expr.Unary node op operand) }
 {
-    let height = operand.height() + 1;
+    let height = operand.height().saturating_add(1);
     Ok(Measured {
         tree: Expr::Unary(node, op, Boxed::new(alloc, operand.into_tree())?),
         height,
@@ -306,10 +323,9 @@ pub fn unary(alloc: Global, node: Node, op: UnaryOp, operand: Measured) -> Resul
 
 /// `object.name`.
 pub fn field(alloc: Global, node: Node, object: Measured, name: Spelling) -> Result<Measured, AllocError>
-    requires { height_of_expr object < 2 ^ 32 }
     ensures { IfOk result (λ x. x ≡ Expr.Field node object name) }
 {
-    let height = object.height() + 1;
+    let height = object.height().saturating_add(1);
     Ok(Measured {
         tree: Expr::Field(node, Boxed::new(alloc, object.into_tree())?, name),
         height,
@@ -318,11 +334,9 @@ pub fn field(alloc: Global, node: Node, object: Measured, name: Spelling) -> Res
 
 /// An operator with its operands.
 pub fn binary(alloc: Global, node: Node, op: BinaryOp, left: Measured, right: Measured) -> Result<Measured, AllocError>
-    requires left { height_of_expr left < 2 ^ 32 }
-    requires right { height_of_expr right < 2 ^ 32 }
     ensures { IfOk result (λ x. x ≡ Expr.Binary node op left right) }
 {
-    let height = left.height().max(right.height()) + 1;
+    let height = left.height().max(right.height()).saturating_add(1);
     let left = Boxed::new(alloc, left.into_tree())?;
     let right = Boxed::new(alloc, right.into_tree())?;
     Ok(Measured {
@@ -333,11 +347,9 @@ pub fn binary(alloc: Global, node: Node, op: BinaryOp, left: Measured, right: Me
 
 /// `object[place]`.
 pub fn index(alloc: Global, node: Node, object: Measured, place: Measured) -> Result<Measured, AllocError>
-    requires object { height_of_expr object < 2 ^ 32 }
-    requires place { height_of_expr place < 2 ^ 32 }
     ensures { IfOk result (λ x. x ≡ Expr.Index node object place) }
 {
-    let height = object.height().max(place.height()) + 1;
+    let height = object.height().max(place.height()).saturating_add(1);
     let object = Boxed::new(alloc, object.into_tree())?;
     let place = Boxed::new(alloc, place.into_tree())?;
     Ok(Measured {
@@ -348,12 +360,9 @@ pub fn index(alloc: Global, node: Node, object: Measured, place: Measured) -> Re
 
 /// `value if condition else other`.
 pub fn conditional(alloc: Global, node: Node, value: Measured, condition: Measured, other: Measured) -> Result<Measured, AllocError>
-    requires value { height_of_expr value < 2 ^ 32 }
-    requires condition { height_of_expr condition < 2 ^ 32 }
-    requires other { height_of_expr other < 2 ^ 32 }
     ensures { IfOk result (λ x. x ≡ Expr.Conditional node value condition other) }
 {
-    let height = value.height().max(condition.height()).max(other.height()) + 1;
+    let height = value.height().max(condition.height()).max(other.height()).saturating_add(1);
     let value = Boxed::new(alloc, value.into_tree())?;
     let condition = Boxed::new(alloc, condition.into_tree())?;
     let other = Boxed::new(alloc, other.into_tree())?;
@@ -365,35 +374,32 @@ pub fn conditional(alloc: Global, node: Node, value: Measured, condition: Measur
 
 /// A list.
 pub fn list(node: Node, row: Row) -> Measured
-    requires { highest (map height_of_expr row) < 2 ^ 32 }
     ensures { result ≡ Expr.List node row }
 {
     let Row { items, height } = row;
     Measured {
         tree: Expr::List(node, items),
-        height: height + 1,
+        height: height.saturating_add(1),
     }
 }
 
 /// A tuple.
 pub fn tuple(node: Node, commas: Commas, row: Row) -> Measured
-    requires { highest (map height_of_expr row) < 2 ^ 32 }
     ensures { result ≡ Expr.Tuple node commas row }
 {
     let Row { items, height } = row;
     Measured {
         tree: Expr::Tuple(node, commas, items),
-        height: height + 1,
+        height: height.saturating_add(1),
     }
 }
 
 /// The operands of a junction, two or more.
 pub fn joined(junction: Junction, node: Node, row: Row) -> Measured
-    requires { highest (map height_of_expr row) < 2 ^ 32 }
     ensures { result ≡ joined junction node row }
 {
     let Row { items, height } = row;
-    let height = height + 1;
+    let height = height.saturating_add(1);
     match junction {
         Junction::Or => Measured {
             tree: Expr::Or(node, items),
@@ -408,24 +414,21 @@ pub fn joined(junction: Junction, node: Node, row: Row) -> Measured
 
 /// `name(arguments)`.
 pub fn call(name: Name, row: Row) -> Measured
-    requires { highest (map height_of_expr row) < 2 ^ 32 }
     ensures { result ≡ spec.call_tree name row }
 {
     let Row { items, height } = row;
     Measured {
         tree: Expr::Call(name.node, name, items),
-        height: height.max(1) + 1,
+        height: height.max(1).saturating_add(1),
     }
 }
 
 /// `object.name(arguments)`.
 pub fn method(alloc: Global, node: Node, object: Measured, name: Spelling, row: Row) -> Result<Measured, AllocError>
-    requires object { height_of_expr object < 2 ^ 32 }
-    requires arguments { highest (map height_of_expr row) < 2 ^ 32 }
     ensures { IfOk result (λ x. x ≡ Expr.MethodCall node node object name row) }
 {
     let Row { items, height } = row;
-    let height = height.max(object.height() + 1) + 1;
+    let height = height.max(object.height().saturating_add(1)).saturating_add(1);
     let object = Boxed::new(alloc, object.into_tree())?;
     Ok(Measured {
         tree: Expr::MethodCall(node, node, object, name, items),
@@ -436,12 +439,10 @@ pub fn method(alloc: Global, node: Node, object: Measured, name: Spelling, row: 
 /// A first operand and the comparisons beside it.
 #[tactic(auto, using(crate::proofs::Heights::compare_known))]
 pub fn compare(alloc: Global, node: Node, first: Measured, comparisons: Comparisons) -> Result<Measured, AllocError>
-    requires first { height_of_expr first < 2 ^ 32 }
-    requires comparisons { highest (map (of_comparison over_parts) comparisons) < 2 ^ 32 }
     ensures { IfOk result (λ x. x ≡ Expr.Compare node first comparisons) }
 {
     let Comparisons { items, height } = comparisons;
-    let height = first.height().max(height) + 1;
+    let height = first.height().max(height).saturating_add(1);
     let first = Boxed::new(alloc, first.into_tree())?;
     Ok(Measured {
         tree: Expr::Compare(node, first, items),
