@@ -1,7 +1,15 @@
 -- A recursion on a count of turns, beside a loop that counts up; and what the law says of what was read.
-use Rattle.std.proofs.Common.{◌≡◌, ℕ, suc, ◌+◌, ◌-◌, ◌<◌, ◌≤◌, List, Result, Ok, Err, IfOk, ap, subst, ◌∙◌, arith}
+use Rattle.std.proofs.Common.{◌≡◌, ◌≢◌, ℕ, suc, ◌+◌, ◌-◌, ◌<◌, ◌≤◌, Bool, true, false, refl, sym, nat_lt, List, [], ◌∷◌, length, Result, Ok, Err, IfOk, ap, subst, ◌∙◌, arith}
+use Rattle.std.proofs.lemmas.Bool.{lt-ltb}
+use Rattle.parse_laws.specs.Loops.{is_several, finished}
+use Rattle.source_trees.specs.declared.node.Name.{Name}
+use Rattle.source_trees.specs.declared.statement.LoopNames.TheVariants.{Several}
+use Rattle.grammar_rules.specs.Expressions.{loop_names}
 use Rattle.indent_lexer.specs.declared.token.Token.{Token}
 use Rattle.source_trees.specs.declared.expression.Expr.{Expr}
+use Rattle.source_trees.specs.declared.expression.Commas.TheVariants.{Bracketed}
+use Rattle.source_trees.specs.declared.expression.Expr.TheVariants as e
+use Rattle.grammar_rules.specs.Words.{node_at}
 use Rattle.source_trees.specs.Heights.{height_of_expr}
 use Rattle.parse_laws.specs.Parser.{Outcome, Parsed}
 use Rattle.parse_laws.specs.Language.{Law}
@@ -9,7 +17,7 @@ use Rattle.parse_laws.specs.Limits.{Limited}
 use Rattle.parse_expressions.specs.declared.form.Form.{Form}
 use Rattle.parse_expressions.specs.declared.cursor.ParseError.{ParseError}
 use Rattle.parse_expressions.specs.Forms.{Spells, Low, looseness, carries}
-use Rattle.parse_expressions.specs.Reading.{read}
+use Rattle.parse_expressions.specs.Reading.{read, round_tree}
 use Rattle.parse_expressions.specs.Code.{Reads}
 use Rattle.parse_expressions.proofs.Wholes.{read_law}
 
@@ -28,3 +36,20 @@ low_of room f ts v r o h law =
 pub low : (room : ℕ) (f : Form) (ts : List Token) (r : Result Expr ParseError) (new : List Token) → Reads (read room f ts) r new → IfOk r (λ x. height_of_expr x ≤ room)
 low room f ts (Ok v) new h = low_of room f ts v new (read room f ts) h (read_law room f ts)
 low room f ts (Err x) new h = tt
+
+pub round_many : (t : Token) (xs : List Expr) → length xs ≢ 1 → round_tree t (xs, false) ≡ e.Tuple (node_at t) Bracketed xs
+round_many t [] h = refl
+round_many t (x ∷ []) h = absurd (h refl)
+round_many t (x ∷ y ∷ ys) h = refl
+
+pub several_is : {A : Type 0} (xs : List A) → is_several xs ≡ nat_lt 1 (length xs)
+several_is [] = refl
+several_is (x ∷ []) = refl
+several_is (x ∷ y ∷ ys) = sym (lt-ltb 1 (length (x ∷ y ∷ ys)) (omega arith))
+
+pub names_made : (xs : List Name) (more : Bool) → length xs ≢ 1 → loop_names (finished (xs, more)) ≡ Several xs
+names_made [] true h = refl
+names_made [] false h = refl
+names_made (x ∷ []) more h = absurd (h refl)
+names_made (x ∷ y ∷ ys) true h = refl
+names_made (x ∷ y ∷ ys) false h = refl

@@ -5,6 +5,7 @@ mod cursor;
 mod form;
 mod leaf;
 mod measured;
+mod word;
 mod reader;
 mod start;
 

@@ -2,7 +2,7 @@ ghost use Rattle.std.specs.Prelude.{◌≡◌, ◌≤◌, ◌∷◌, ◌++◌, �
 ghost use Rattle.source_trees.specs.Heights.{height_of_expr, highest};
 ghost use Rattle.parse_laws.specs.Parser.{sees};
 ghost use Rattle.parse_laws.specs.Parser.{row_turn};
-ghost use Rattle.parse_laws.specs.Loops.{row_test, starts_in, rest_of};
+ghost use Rattle.parse_laws.specs.Loops.{row_test, starts_in, rest_of, is_several};
 ghost use Rattle.grammar_rules.specs.Words.{is_comma};
 ghost use Rattle.parse_expressions.specs.declared.form.Form.TheVariants.{Whole};
 ghost use Rattle.parse_expressions.specs.Forms.{begins};
@@ -62,6 +62,14 @@ fn row_goes_on(cursor: &Cursor<'_>, row: &OpenRow, limited: bool) -> bool
     goes_on(cursor, row.1, has_space)
 }
 
+/// Whether a row has two items or more.
+#[tactic(auto, using(crate::proofs::Counting::several_is))]
+fn is_several(row: &Row) -> bool
+    ensures { result ≡ is_several row.now }
+{
+    row.len() > 1
+}
+
 /// Items of a row and whether one may follow without a comma.
 pub type OpenRow = (Row, bool);
 
@@ -90,7 +98,7 @@ impl<F: Fn(Global, &mut Cursor<'_>, u32, Form) -> Result<Measured, ParseError>> 
     }
 
     /// The items after those that stand.
-    fn rest(&self, cursor: &mut Cursor<'_>, first: Row, limited: bool) -> Result<OpenRow, ParseError>
+    pub fn rest(&self, cursor: &mut Cursor<'_>, first: Row, limited: bool) -> Result<OpenRow, ParseError>
         requires { Subs self.now.room (F.pre self.now.sub) (F.post self.now.sub) }
         ensures { Reads (rest_of is_comma (begins 3) (spec.limit_of limited) (spec.read self.now.room Whole) first cursor.old) result cursor.new }
     {
@@ -101,6 +109,35 @@ impl<F: Fn(Global, &mut Cursor<'_>, u32, Form) -> Result<Measured, ParseError>> 
             }
             row = self.row_turn(cursor, row)?;
         }
+        Ok(row)
+    }
+
+    /// Items with commas between and perhaps one after the last, and whether a comma stands at all.
+    #[tactic(auto, unfolding(crate::specs::Reading::row, parse_laws::specs::Loops::listed))]
+    pub fn row(&self, cursor: &mut Cursor<'_>, limited: bool) -> Result<(Row, bool), ParseError>
+        requires { Subs self.now.room (F.pre self.now.sub) (F.post self.now.sub) }
+        ensures { Reads (spec.row self.now.room (spec.read self.now.room) (spec.limit_of limited) cursor.old) result cursor.new }
+    {
+        let item = self.sub(cursor, Form::Whole)?;
+        let first = Row::new(self.alloc).push(item)?;
+        let (row, is_open) = self.rest(cursor, first, limited)?;
+        let has_comma = is_open || is_several(&row);
+        Ok((row, has_comma))
+    }
+
+    /// Arguments in round brackets.
+    #[tactic(auto, unfolding(crate::specs::Reading::arguments))]
+    pub fn arguments(&self, cursor: &mut Cursor<'_>) -> Result<Row, ParseError>
+        requires { Subs self.now.room (F.pre self.now.sub) (F.post self.now.sub) }
+        ensures { Reads (spec.arguments self.now.room (spec.read self.now.room) cursor.old) result cursor.new }
+    {
+        cursor.expect_op(b"(".as_slice())?;
+        if cursor.sees_op(b")".as_slice()) {
+            cursor.expect_op(b")".as_slice())?;
+            return Ok(Row::new(self.alloc));
+        }
+        let (row, _has_comma) = self.row(cursor, true)?;
+        cursor.expect_op(b")".as_slice())?;
         Ok(row)
     }
 }
