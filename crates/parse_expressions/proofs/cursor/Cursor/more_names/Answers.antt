@@ -5,7 +5,7 @@ use Rattle.parse_laws.specs.Loops.{rest_of, row_test, starts_in}
 use Rattle.grammar_rules.specs.Words.{is_comma, name_at}
 use Rattle.parse_expressions.specs.Reading.{is_name, any_number}
 use Rattle.parse_expressions.proofs.Counting.{one_more, no_more}
-use Rattle.parse_expressions.proofs.word.Cursor.more_names.Goals as goal
+use Rattle.parse_expressions.proofs.cursor.Cursor.more_names.Goals as goal
 
 pub turn-init : goal.turn-init
 unfolding rest_of

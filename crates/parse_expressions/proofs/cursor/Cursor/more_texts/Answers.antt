@@ -4,7 +4,7 @@ use Rattle.parse_laws.specs.Parser.{repeat, take_by, pure, ◌>>=◌}
 use Rattle.grammar_rules.specs.Words.{text_of}
 use Rattle.parse_expressions.specs.Reading.{more_texts, is_text}
 use Rattle.parse_expressions.proofs.Counting.{one_more, no_more}
-use Rattle.parse_expressions.proofs.word.Cursor.more_texts.Goals as goal
+use Rattle.parse_expressions.proofs.cursor.Cursor.more_texts.Goals as goal
 
 pub turn-init : goal.turn-init
 unfolding more_texts

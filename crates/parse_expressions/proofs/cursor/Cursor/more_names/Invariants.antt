@@ -3,7 +3,7 @@ use Rattle.parse_laws.specs.Parser.{repeat, take_by, row_turn}
 use Rattle.parse_laws.specs.Loops.{rest_of, row_test, starts_in}
 use Rattle.grammar_rules.specs.Words.{is_comma, name_at}
 use Rattle.parse_expressions.specs.Reading.{is_name, any_number}
-use Rattle.parse_expressions.proofs.word.Cursor.more_names.Given as goal
+use Rattle.parse_expressions.proofs.cursor.Cursor.more_names.Given as goal
 
 abbrev pub invariant-turn : goal.invariant-turn
 invariant-turn l =
