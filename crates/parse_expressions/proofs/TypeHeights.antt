@@ -1,43 +1,12 @@
 -- The height of each type by those of its parts.
-use Rattle.std.proofs.Common.{◌≡◌, ℕ, zero, suc, ◌+◌, ◌≤◌, max, nat_le, nat_lt, Bool, true, false, not, if◌then◌else◌, ◌||◌, ◌&&◌, List, [], ◌∷◌, ◌++◌, length, map, refl, sym, ◌∙◌, ap, subst, Option, Some, None, codes, inl, inr, ◌⊎◌, append_assoc, arith}
-use Rattle.std.proofs.lemmas.List.{append-nil, length-append}
-use Rattle.std.proofs.lemmas.Bool.{ltb-true, lt-ltb}
-use Rattle.std.specs.Str.{bytes_eq}
-use Rattle.indent_lexer.specs.declared.token.Token.{Token}
-use Rattle.indent_lexer.specs.declared.token.TokenKind.{TokenKind}
-use Rattle.indent_lexer.specs.declared.token.TokenKind.TheVariants as kind
-use Rattle.source_trees.specs.declared.item.Annotation.{Annotation, Annotation-F, out-Annotation, fold-Annotation, fold-roll-Annotation, fold_out-Annotation}
+use Rattle.std.proofs.Common.{◌≡◌, ℕ, ◌+◌, ◌≤◌, max, List, [], ◌∷◌, map, sym, ◌∙◌, ap, subst, arith}
+use Rattle.source_trees.specs.declared.item.Annotation.{Annotation, Annotation-F, fold-roll-Annotation, fold_out-Annotation}
 use Rattle.source_trees.specs.declared.item.Annotation.TheVariants as annotation
 use Rattle.source_trees.specs.declared.node.Node.{Node}
-use Rattle.source_trees.specs.declared.node.Name.{Name}
 use Rattle.source_trees.specs.Heights.{highest, over_parts, height_of_annotation}
 use Rattle.source_trees.specs.Parts.{of_annotation, annotation_step}
-use Rattle.parse_laws.specs.declared.cause.Cause.TheVariants.{Unexpected, TooDeep}
-use Rattle.parse_laws.specs.Parser.{Parser, Stopped, and_then, class_of, sees, pure, refuse, choose, within, expect, take_by, has, in_table, repeat, ◌>>=◌, ◌>>◌}
-use Rattle.parse_laws.specs.Language.{Language, Free, Viable, Law}
-use Rattle.parse_laws.specs.Forms.{Then, Is, Picks, Opens, Closes, Made, Either, never}
-use Rattle.parse_laws.specs.Limits.{Limited, Nothing, Carries}
-use Rattle.parse_laws.specs.Loops.{Turns, done, next, Repeated}
-use Rattle.parse_laws.proofs.Choices.{choose_law}
-use Rattle.parse_laws.proofs.Forms.{free_never, wider_at, begins_at}
 use Rattle.parse_laws.proofs.Lists.{FitEach}
-use Rattle.parse_laws.proofs.Steps.{refuse_law, deep_law}
-use Rattle.parse_laws.proofs.Sorts.{sort_limited}
-use Rattle.parse_laws.proofs.Repeats.{at_head, repeat_law}
-use Rattle.parse_laws.proofs.Limits.{same_law, nothing_law, take_limited, pick_limited, optional_law, limit_law, join_law, made_limited, open_limited, close_limited}
-use Rattle.grammar_rules.specs.Types as g
-use Rattle.grammar_rules.specs.Types.{IsType, IsTypes, is_type_word, is_list_word, is_tuple_word}
-use Rattle.grammar_rules.specs.Words.{op_in, keyword_in, name_in, named_by, is_spelled, is_op, is_keyword, is_word, is_comma, name_of, node_at, name_at, most_items}
-use Rattle.parse_expressions.specs.Reading.{is_square, is_square_close}
-use Rattle.parse_expressions.specs.declared.start.TypeStart.{TypeStart}
-use Rattle.parse_expressions.specs.declared.start.TypeStart.TheVariants.{Simple, ListWord, TupleWord, Nowhere}
-use Rattle.parse_expressions.specs.TypeReading as reading
-use Rattle.parse_expressions.specs.TypeReading.{LowType, is_list_spelling, is_tuple_spelling, type_start_in, type_start, named_type, simple_in, simple_type, type_begins_in, type_begins, named_if, few_types, more_types, class_tree}
-use Rattle.parse_expressions.proofs.Tokens.{bytes_equal, op_kind, keyword_kind, name_kind, or_first, or_second, or_none, and_first, and_second}
-use Rattle.parse_expressions.proofs.Opens.{x_token, op_token, name_spelling}
-use Rattle.parse_expressions.proofs.Lows.{room_true, no_room}
-use Rattle.parse_expressions.proofs.Leaves.{Free_of_limit}
-
+use Rattle.parse_expressions.specs.TypeReading.{LowType}
 
 -- ---- heights
 
@@ -89,4 +58,3 @@ types_up n (x ∷ xs) f = let i = f.0 in let k = types_up n xs f.1 in omega arit
 pub types_down : (n : ℕ) (xs : List Annotation) → highest (map height_of_annotation xs) ≤ n → FitEach (LowType n) xs
 types_down n [] h = tt
 types_down n (x ∷ xs) h = (omega arith, types_down n xs (omega arith))
-

@@ -1,22 +1,18 @@
 -- The law of types at every height.
-use Rattle.std.proofs.Common.{◌≡◌, ℕ, zero, suc, ◌+◌, ◌≤◌, max, nat_le, nat_lt, Bool, true, false, not, if◌then◌else◌, ◌||◌, ◌&&◌, List, [], ◌∷◌, ◌++◌, length, map, refl, sym, ◌∙◌, ap, subst, Option, Some, None, codes, inl, inr, ◌⊎◌, append_assoc, arith}
-use Rattle.std.proofs.lemmas.List.{append-nil, length-append}
-use Rattle.std.proofs.lemmas.Bool.{ltb-true, lt-ltb}
+use Rattle.std.proofs.Common.{◌≡◌, ℕ, zero, suc, ◌≤◌, nat_le, Bool, true, false, if◌then◌else◌, ◌||◌, ◌&&◌, List, [], ◌∷◌, ◌++◌, length, refl, ◌∙◌, ap, subst, Some, None, codes, inr, append_assoc, arith}
 use Rattle.std.specs.Str.{bytes_eq}
 use Rattle.indent_lexer.specs.declared.token.Token.{Token}
 use Rattle.indent_lexer.specs.declared.token.TokenKind.{TokenKind}
 use Rattle.indent_lexer.specs.declared.token.TokenKind.TheVariants as kind
-use Rattle.source_trees.specs.declared.item.Annotation.{Annotation, Annotation-F, out-Annotation, fold-Annotation, fold-roll-Annotation, fold_out-Annotation}
+use Rattle.source_trees.specs.declared.item.Annotation.{Annotation}
 use Rattle.source_trees.specs.declared.item.Annotation.TheVariants as annotation
 use Rattle.source_trees.specs.declared.node.Node.{Node}
 use Rattle.source_trees.specs.declared.node.Name.{Name}
-use Rattle.source_trees.specs.Heights.{highest, over_parts, height_of_annotation}
-use Rattle.source_trees.specs.Parts.{of_annotation, annotation_step}
 use Rattle.parse_laws.specs.declared.cause.Cause.TheVariants.{Unexpected, TooDeep}
-use Rattle.parse_laws.specs.Parser.{Parser, Stopped, and_then, class_of, sees, pure, refuse, choose, within, expect, take_by, has, in_table, repeat, ◌>>=◌, ◌>>◌}
-use Rattle.parse_laws.specs.Language.{Language, Free, Viable, Law}
-use Rattle.parse_laws.specs.Forms.{Then, Is, Picks, Opens, Closes, Made, Either, never}
-use Rattle.parse_laws.specs.Limits.{Limited, Nothing, Carries}
+use Rattle.parse_laws.specs.Parser.{Parser, Stopped, and_then, class_of, sees, pure, refuse, choose, within, expect, take_by, repeat, ◌>>=◌, ◌>>◌}
+use Rattle.parse_laws.specs.Language.{Language, Free, Law}
+use Rattle.parse_laws.specs.Forms.{Then, Picks, Opens, Closes, Made, never}
+use Rattle.parse_laws.specs.Limits.{Limited, Carries}
 use Rattle.parse_laws.specs.Loops.{Turns, done, next, Repeated}
 use Rattle.parse_laws.proofs.Choices.{choose_law}
 use Rattle.parse_laws.proofs.Forms.{free_never, wider_at, begins_at}
@@ -27,20 +23,18 @@ use Rattle.parse_laws.proofs.Repeats.{at_head, repeat_law}
 use Rattle.parse_laws.proofs.Limits.{same_law, nothing_law, take_limited, pick_limited, optional_law, limit_law, join_law, made_limited, open_limited, close_limited}
 use Rattle.grammar_rules.specs.Types as g
 use Rattle.grammar_rules.specs.Types.{IsType, IsTypes, is_type_word, is_list_word, is_tuple_word}
-use Rattle.grammar_rules.specs.Words.{op_in, keyword_in, name_in, named_by, is_spelled, is_op, is_keyword, is_word, is_comma, name_of, node_at, name_at, most_items}
+use Rattle.grammar_rules.specs.Words.{op_in, is_spelled, is_comma, node_at}
 use Rattle.parse_expressions.specs.Reading.{is_square, is_square_close}
 use Rattle.parse_expressions.specs.declared.start.TypeStart.{TypeStart}
 use Rattle.parse_expressions.specs.declared.start.TypeStart.TheVariants.{Simple, ListWord, TupleWord, Nowhere}
 use Rattle.parse_expressions.specs.TypeReading as reading
 use Rattle.parse_expressions.specs.TypeReading.{LowType, is_list_spelling, is_tuple_spelling, type_start_in, type_start, named_type, simple_in, simple_type, type_begins_in, type_begins, named_if, few_types, more_types, class_tree}
-use Rattle.parse_expressions.proofs.Tokens.{bytes_equal, op_kind, keyword_kind, name_kind, or_first, or_second, or_none, and_first, and_second}
-use Rattle.parse_expressions.proofs.Opens.{x_token, op_token, name_spelling}
+use Rattle.parse_expressions.proofs.Tokens.{op_kind, or_first, or_none, and_second}
+use Rattle.parse_expressions.proofs.Opens.{x_token, op_token}
 use Rattle.parse_expressions.proofs.Lows.{room_true, no_room}
 use Rattle.parse_expressions.proofs.Leaves.{Free_of_limit}
 use Rattle.parse_expressions.proofs.TypeHeights.{height-Int, height-Bool, height-Str, height-None, height-Class, height-List, height-Tuple, type_positive, types_up, types_down}
-use Rattle.parse_expressions.proofs.Types.{TypeItem, Step, TypeRow, Bracket, Rest, list_tree, tuple_tree, TypeFrom, type_up, type_down, type_opens, type_viable}
-
-
+use Rattle.parse_expressions.proofs.Types.{Step, TypeRow, Bracket, Rest, list_tree, tuple_tree, TypeFrom, type_up, type_down, type_opens, type_viable}
 
 -- ---- facts of tokens
 
@@ -118,7 +112,7 @@ module _ (room : ℕ) (sub : Parser Token Annotation) (below : ReadsTypes room s
       (λ t i. (x_token ∷ [], v ++ x_type ∷ [], ((x_type, least_type, refl), fit_snoc room v x_type f (x_low some))))
       ts (λ _. sub >>= λ y. pure (v ++ y ∷ []))
       (λ t r i j. made_limited IsType is_square (λ y. v ++ y ∷ []) (LowType room) Fit
-          (record { grows = λ y k. fit_snoc room v y f k; shrinks = λ y k. fit_last room v y k }) r (sub r) (below r)))
+      (record { grows = λ y k. fit_snoc room v y f k; shrinks = λ y k. fit_last room v y k }) r (sub r) (below r)))
 
   step_opens : (v : List Annotation) (b : List Token) (u : List Annotation) (s : List Token) → Step v b u → sees (more_types v) (b ++ s) ≡ true
   step_opens v b u s k =
@@ -155,7 +149,7 @@ module _ (room : ℕ) (sub : Parser Token Annotation) (below : ReadsTypes room s
         shrinks = λ a x p c w q f. (turns_shrink (x ∷ []) c w q f).0;
       }) ts (sub ts) (below ts) (λ x us. repeat more_types (λ xs. expect is_comma >>= λ _. sub >>= λ y. pure (xs ++ y ∷ [])) (length us) (x ∷ []) us)
       (λ used x r p f e. repeat_law more_types Step (λ _. is_square) row_carries Fit repeated (λ xs. expect is_comma >>= λ _. sub >>= λ y. pure (xs ++ y ∷ []))
-          (λ v g us h. turn_law some v g us h) (length r) (x ∷ []) r (omega arith) (f, tt))
+      (λ v g us h. turn_law some v g us h) (length r) (x ∷ []) r (omega arith) (f, tt))
 
   -- ---- what stands in brackets after `list` and `tuple`
 
@@ -184,13 +178,13 @@ module _ (room : ℕ) (sub : Parser Token Annotation) (below : ReadsTypes room s
       optional_law (Bracket L (f name.node)) (class_tree name) Within (class_low name) is_square is_square (λ a w s k. ap (λ z. sees is_square (z ++ s)) k.2 ∙ k.3) (λ t h. h)
       (within (nat_le 1 room) (expect is_square >>= λ _. p >>= λ x. expect is_square_close >> pure (f name.node x))) ts
       (λ h. limit_law (Bracket L (f name.node)) Within is_square is_square (nat_le 1 room)
-          (λ t i. (x_token ∷ op_token (codes "]") ∷ [], f name.node v, (t, x_token ∷ op_token (codes "]") ∷ [], refl, i, (x_token ∷ [], v, op_token (codes "]"), refl, least, refl, refl))))
-          (λ none a w s k g free i. no_room 1 room none (some_of name.node k.4.0 k.4.1 k.4.4 (subst Within k.4.6 g)))
-          (expect is_square >>= λ _. p >>= λ x. expect is_square_close >> pure (f name.node x)) ts h
-          (λ some. open_limited is_square (λ _. Closes L is_square_close (f name.node)) Within is_square
-              (λ t i. (x_token ∷ op_token (codes "]") ∷ [], f name.node v, ((x_token ∷ [], v, op_token (codes "]"), refl, least, refl, refl), (carries name.node).grows v (fits (room_true room some)))))
-              ts (λ _. p >>= λ x. expect is_square_close >> pure (f name.node x))
-              (λ t r i j. close_limited is_square_close (op_token (codes "]")) refl L contp is_square apart (f name.node) fit Within (carries name.node) r (p r) (law (room_true room some) r))))
+      (λ t i. (x_token ∷ op_token (codes "]") ∷ [], f name.node v, (t, x_token ∷ op_token (codes "]") ∷ [], refl, i, (x_token ∷ [], v, op_token (codes "]"), refl, least, refl, refl))))
+      (λ none a w s k g free i. no_room 1 room none (some_of name.node k.4.0 k.4.1 k.4.4 (subst Within k.4.6 g)))
+      (expect is_square >>= λ _. p >>= λ x. expect is_square_close >> pure (f name.node x)) ts h
+      (λ some. open_limited is_square (λ _. Closes L is_square_close (f name.node)) Within is_square
+      (λ t i. (x_token ∷ op_token (codes "]") ∷ [], f name.node v, ((x_token ∷ [], v, op_token (codes "]"), refl, least, refl, refl), (carries name.node).grows v (fits (room_true room some)))))
+      ts (λ _. p >>= λ x. expect is_square_close >> pure (f name.node x))
+      (λ t r i j. close_limited is_square_close (op_token (codes "]")) refl L contp is_square apart (f name.node) fit Within (carries name.node) r (p r) (law (room_true room some) r))))
 
   named_law : (test : Token → Bool) (R : Name → Language Token Annotation) → ((name : Name) → R name [] (class_tree name)) → (q : Name → Parser Token Annotation)
       → ((name : Name) (ts : List Token) → Law (R name) (Limited (R name) Within) is_square ts (q name ts))
@@ -215,15 +209,15 @@ module _ (room : ℕ) (sub : Parser Token Annotation) (below : ReadsTypes room s
   list_law ts =
       named_law is_list_word (Rest IsType list_tree) (λ name. inr (refl, refl)) (reading.list_rest room sub)
       (λ name us. rest_law IsType list_tree (LowType room) is_square square_ends list_carries
-          (λ n a x p f. let h = height-List n x in let k = type_positive x in omega arith) x_type least_type x_low sub (λ some vs. below vs) name us) ts
+      (λ n a x p f. let h = height-List n x in let k = type_positive x in omega arith) x_type least_type x_low sub (λ some vs. below vs) name us) ts
 
   tuple_law : (ts : List Token) → Law (TypeFrom TupleWord) (Limited (TypeFrom TupleWord) Within) is_square ts (and_then (take_by (named_if is_tuple_word) ts) (reading.tuple_rest room sub))
   unfolding reading.tuple_rest
   tuple_law ts =
       named_law is_tuple_word (Rest TypeRow tuple_tree) (λ name. inr (refl, refl)) (reading.tuple_rest room sub)
       (λ name us. rest_law TypeRow tuple_tree Fit row_carries close_ends_row tuple_carries row_some (x_type ∷ [])
-          (record { first = x_token ∷ []; second = []; value = x_type; joined = refl; heads = least_type; tails = done (x_type ∷ []) })
-          (λ some. (x_low some, tt)) (reading.types room sub) types_law name us) ts
+      (record { first = x_token ∷ []; second = []; value = x_type; joined = refl; heads = least_type; tails = done (x_type ∷ []) })
+      (λ some. (x_low some, tt)) (reading.types room sub) types_law name us) ts
 
   named_low : (n : Node) (spelling : List ℕ) (x y z : Bool) → Within (if x then annotation.Int n else if y then annotation.Bool n else if z then annotation.Str n else annotation.Class n spelling)
   named_low n spelling true y z = let h = height-Int n in omega arith
@@ -258,7 +252,7 @@ no_room_law : (ts : List Token) → Law IsType (Limited IsType (LowType 0)) is_s
 no_room_law ts =
     choose_law IsType (Limited IsType (LowType 0)) is_square type_begins ts (Stopped TooDeep ts) (Stopped Unexpected ts)
     (λ h. deep_law IsType (Limited IsType (LowType 0)) is_square type_begins true
-        (λ a v s k free i. let p = type_positive v in let q = k.1 in absurd (omega arith)) ts h (begins_at type_begins IsType type_viable ts h))
+    (λ a v s k free i. let p = type_positive v in let q = k.1 in absurd (omega arith)) ts h (begins_at type_begins IsType type_viable ts h))
     (λ h. refuse_law IsType (Limited IsType (LowType 0)) is_square type_begins false (λ a v s k free i. let p = type_opens a v s k in absurd (cc)) ts h)
 
 -- The parser of types is exact within every limit of height.

@@ -1,42 +1,29 @@
 -- What the grammar says of types, by what they begin with.
-use Rattle.std.proofs.Common.{◌≡◌, ℕ, zero, suc, ◌+◌, ◌≤◌, max, nat_le, nat_lt, Bool, true, false, not, if◌then◌else◌, ◌||◌, ◌&&◌, List, [], ◌∷◌, ◌++◌, length, map, refl, sym, ◌∙◌, ap, subst, Option, Some, None, codes, inl, inr, ◌⊎◌, append_assoc, arith}
+use Rattle.std.proofs.Common.{◌≡◌, ℕ, ◌+◌, ◌≤◌, Bool, true, false, if◌then◌else◌, ◌||◌, List, [], ◌∷◌, ◌++◌, length, refl, sym, ◌∙◌, ap, subst, Some, None, codes, inl, inr, ◌⊎◌, append_assoc, arith}
 use Rattle.std.proofs.lemmas.List.{append-nil, length-append}
 use Rattle.std.proofs.lemmas.Bool.{ltb-true, lt-ltb}
 use Rattle.std.specs.Str.{bytes_eq}
 use Rattle.indent_lexer.specs.declared.token.Token.{Token}
 use Rattle.indent_lexer.specs.declared.token.TokenKind.{TokenKind}
 use Rattle.indent_lexer.specs.declared.token.TokenKind.TheVariants as kind
-use Rattle.source_trees.specs.declared.item.Annotation.{Annotation, Annotation-F, out-Annotation, fold-Annotation, fold-roll-Annotation, fold_out-Annotation}
+use Rattle.source_trees.specs.declared.item.Annotation.{Annotation}
 use Rattle.source_trees.specs.declared.item.Annotation.TheVariants as annotation
 use Rattle.source_trees.specs.declared.node.Node.{Node}
 use Rattle.source_trees.specs.declared.node.Name.{Name}
-use Rattle.source_trees.specs.Heights.{highest, over_parts, height_of_annotation}
-use Rattle.source_trees.specs.Parts.{of_annotation, annotation_step}
-use Rattle.parse_laws.specs.declared.cause.Cause.TheVariants.{Unexpected, TooDeep}
-use Rattle.parse_laws.specs.Parser.{Parser, Stopped, and_then, class_of, sees, pure, refuse, choose, within, expect, take_by, has, in_table, repeat, ◌>>=◌, ◌>>◌}
-use Rattle.parse_laws.specs.Language.{Language, Free, Viable, Law}
-use Rattle.parse_laws.specs.Forms.{Then, Is, Picks, Opens, Closes, Made, Either, never}
-use Rattle.parse_laws.specs.Limits.{Limited, Nothing, Carries}
-use Rattle.parse_laws.specs.Loops.{Turns, done, next, Repeated}
-use Rattle.parse_laws.proofs.Choices.{choose_law}
-use Rattle.parse_laws.proofs.Forms.{free_never, wider_at, begins_at}
-use Rattle.parse_laws.proofs.Lists.{FitEach}
-use Rattle.parse_laws.proofs.Steps.{refuse_law, deep_law}
-use Rattle.parse_laws.proofs.Sorts.{sort_limited}
-use Rattle.parse_laws.proofs.Repeats.{at_head, repeat_law}
-use Rattle.parse_laws.proofs.Limits.{same_law, nothing_law, take_limited, pick_limited, optional_law, limit_law, join_law, made_limited, open_limited, close_limited}
+use Rattle.parse_laws.specs.Parser.{class_of, sees}
+use Rattle.parse_laws.specs.Language.{Language, Viable}
+use Rattle.parse_laws.specs.Forms.{Then, Is, Picks, Opens, Closes, Made, Either}
+use Rattle.parse_laws.specs.Limits.{Nothing}
+use Rattle.parse_laws.specs.Loops.{Turns, done, next}
 use Rattle.grammar_rules.specs.Types as g
 use Rattle.grammar_rules.specs.Types.{IsType, IsTypes, is_type_word, is_list_word, is_tuple_word}
-use Rattle.grammar_rules.specs.Words.{op_in, keyword_in, name_in, named_by, is_spelled, is_op, is_keyword, is_word, is_comma, name_of, node_at, name_at, most_items}
+use Rattle.grammar_rules.specs.Words.{keyword_in, name_in, named_by, is_spelled, is_word, is_comma, name_of, node_at, name_at, most_items}
 use Rattle.parse_expressions.specs.Reading.{is_square, is_square_close}
 use Rattle.parse_expressions.specs.declared.start.TypeStart.{TypeStart}
 use Rattle.parse_expressions.specs.declared.start.TypeStart.TheVariants.{Simple, ListWord, TupleWord, Nowhere}
-use Rattle.parse_expressions.specs.TypeReading as reading
-use Rattle.parse_expressions.specs.TypeReading.{LowType, is_list_spelling, is_tuple_spelling, type_start_in, type_start, named_type, simple_in, simple_type, type_begins_in, type_begins, named_if, few_types, more_types, class_tree}
-use Rattle.parse_expressions.proofs.Tokens.{bytes_equal, op_kind, keyword_kind, name_kind, or_first, or_second, or_none, and_first, and_second}
-use Rattle.parse_expressions.proofs.Opens.{x_token, op_token, name_spelling}
-use Rattle.parse_expressions.proofs.Lows.{room_true, no_room}
-use Rattle.parse_expressions.proofs.Leaves.{Free_of_limit}
+use Rattle.parse_expressions.specs.TypeReading.{is_list_spelling, is_tuple_spelling, type_start_in, type_start, named_type, simple_in, simple_type, type_begins_in, type_begins, named_if, few_types, class_tree}
+use Rattle.parse_expressions.proofs.Tokens.{bytes_equal, keyword_kind, name_kind}
+use Rattle.parse_expressions.proofs.Opens.{name_spelling}
 
 -- ---- what the grammar says, by its parts
 
@@ -224,13 +211,13 @@ list_up a v w =
     let A : List Token → Type 0 = λ z. IsType z v in
     elim w.tails as (λ _. IsType a v) [
       | inl k ↦
-        let r = k.4 in
-        let V : Annotation → Type 0 = λ z. IsType (t ∷ k.0 ∷ (r.0 ++ r.2 ∷ [])) z in
-        subst A (sym (w.joined ∙ ap (λ z. z ++ w.second) w.heads.1 ∙ ap (λ z. t ∷ z) (k.2 ∙ ap (λ z. k.0 ∷ z) r.3)))
-        (subst V (sym (r.6 ∙ ap (λ z. annotation.List z.node r.1) n.2)) (g.list t k.0 r.0 r.1 r.2 p.0 k.3 r.4 r.5))
+          let r = k.4 in
+          let V : Annotation → Type 0 = λ z. IsType (t ∷ k.0 ∷ (r.0 ++ r.2 ∷ [])) z in
+          subst A (sym (w.joined ∙ ap (λ z. z ++ w.second) w.heads.1 ∙ ap (λ z. t ∷ z) (k.2 ∙ ap (λ z. k.0 ∷ z) r.3)))
+          (subst V (sym (r.6 ∙ ap (λ z. annotation.List z.node r.1) n.2)) (g.list t k.0 r.0 r.1 r.2 p.0 k.3 r.4 r.5))
       | inr k ↦
-        let V : Annotation → Type 0 = λ z. IsType (t ∷ []) z in
-        subst A (sym (w.joined ∙ ap (λ z. z ++ w.second) w.heads.1 ∙ ap (λ z. t ∷ z) k.0)) (subst V (sym k.1) (rest_class t w.value p.1 (list_no_type t p.0)))
+          let V : Annotation → Type 0 = λ z. IsType (t ∷ []) z in
+          subst A (sym (w.joined ∙ ap (λ z. z ++ w.second) w.heads.1 ∙ ap (λ z. t ∷ z) k.0)) (subst V (sym k.1) (rest_class t w.value p.1 (list_no_type t p.0)))
     ]
 
 tuple_up : (a : List Token) (v : Annotation) → TypeFrom TupleWord a v → IsType a v
@@ -241,14 +228,14 @@ tuple_up a v w =
     let A : List Token → Type 0 = λ z. IsType z v in
     elim w.tails as (λ _. IsType a v) [
       | inl k ↦
-        let r = k.4 in
-        let q = row_from r.0 r.1 r.4 in
-        let V : Annotation → Type 0 = λ z. IsType (t ∷ k.0 ∷ (r.0 ++ r.2 ∷ [])) z in
-        subst A (sym (w.joined ∙ ap (λ z. z ++ w.second) w.heads.1 ∙ ap (λ z. t ∷ z) (k.2 ∙ ap (λ z. k.0 ∷ z) r.3)))
-        (subst V (sym (r.6 ∙ ap (λ z. annotation.Tuple z.node r.1) n.2)) (g.tuple t k.0 r.0 r.1 r.2 p.0 k.3 q.0 q.1 r.5))
+          let r = k.4 in
+          let q = row_from r.0 r.1 r.4 in
+          let V : Annotation → Type 0 = λ z. IsType (t ∷ k.0 ∷ (r.0 ++ r.2 ∷ [])) z in
+          subst A (sym (w.joined ∙ ap (λ z. z ++ w.second) w.heads.1 ∙ ap (λ z. t ∷ z) (k.2 ∙ ap (λ z. k.0 ∷ z) r.3)))
+          (subst V (sym (r.6 ∙ ap (λ z. annotation.Tuple z.node r.1) n.2)) (g.tuple t k.0 r.0 r.1 r.2 p.0 k.3 q.0 q.1 r.5))
       | inr k ↦
-        let V : Annotation → Type 0 = λ z. IsType (t ∷ []) z in
-        subst A (sym (w.joined ∙ ap (λ z. z ++ w.second) w.heads.1 ∙ ap (λ z. t ∷ z) k.0)) (subst V (sym k.1) (rest_class t w.value p.1 (tuple_no_type t p.0)))
+          let V : Annotation → Type 0 = λ z. IsType (t ∷ []) z in
+          subst A (sym (w.joined ∙ ap (λ z. z ++ w.second) w.heads.1 ∙ ap (λ z. t ∷ z) k.0)) (subst V (sym k.1) (rest_class t w.value p.1 (tuple_no_type t p.0)))
     ]
 
 pub type_up : (c : TypeStart) (a : List Token) (v : Annotation) → TypeFrom c a v → IsType a v
@@ -278,8 +265,12 @@ class_down t spelling f p true y h i l =
       second = [];
       value = record { node = node_at t; spelling = spelling };
       joined = refl;
-      heads = (t, refl, named_of is_list_word t (record { node = node_at t; spelling = spelling })
-          (ap (λ k. is_spelled (name_in k) (codes "list") || is_spelled (name_in k) (codes "List")) f ∙ h) (ap (λ k. named_by t (name_in k)) f));
+      heads = (
+        t,
+        refl,
+        named_of is_list_word t (record { node = node_at t; spelling = spelling })
+            (ap (λ k. is_spelled (name_in k) (codes "list") || is_spelled (name_in k) (codes "List")) f ∙ h) (ap (λ k. named_by t (name_in k)) f),
+      );
       tails = inr (refl, refl);
     }) l
 class_down t spelling f p false true h i l =
@@ -290,8 +281,12 @@ class_down t spelling f p false true h i l =
       second = [];
       value = record { node = node_at t; spelling = spelling };
       joined = refl;
-      heads = (t, refl, named_of is_tuple_word t (record { node = node_at t; spelling = spelling })
-          (ap (λ k. is_spelled (name_in k) (codes "tuple") || is_spelled (name_in k) (codes "Tuple")) f ∙ i) (ap (λ k. named_by t (name_in k)) f));
+      heads = (
+        t,
+        refl,
+        named_of is_tuple_word t (record { node = node_at t; spelling = spelling })
+            (ap (λ k. is_spelled (name_in k) (codes "tuple") || is_spelled (name_in k) (codes "Tuple")) f ∙ i) (ap (λ k. named_by t (name_in k)) f),
+      );
       tails = inr (refl, refl);
     }) l
 class_down t spelling f p false false h i l =

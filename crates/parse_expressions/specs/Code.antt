@@ -1,6 +1,6 @@
 -- What a function of the parser's code ensures: it answers as a function on lists of tokens does, and the cursor stands
 -- where that one ended, at the refused token where one is refused. Want of memory says nothing.
-use Rattle.std.specs.Prelude.{◌≡◌, ℕ, List, Result, Ok, Err, Option, Some, None}
+use Rattle.std.specs.Prelude.{◌≡◌, ℕ, List, Result, Ok, Err}
 use Rattle.std.specs.declared.alloc.Global.{Global}
 use Rattle.indent_lexer.specs.declared.token.Token.{Token}
 use Rattle.parse_laws.specs.Parser.{Outcome, Parsed, Stopped}

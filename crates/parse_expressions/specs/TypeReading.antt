@@ -10,9 +10,9 @@ use Rattle.source_trees.specs.declared.node.Node.{Node}
 use Rattle.source_trees.specs.declared.node.Name.{Name}
 use Rattle.source_trees.specs.Heights.{height_of_annotation}
 use Rattle.parse_laws.specs.declared.cause.Cause.TheVariants.{TooDeep}
-use Rattle.parse_laws.specs.Parser.{Parser, Stopped, pure, refuse, choose, within, expect, take_by, has, repeat, sort, ◌>>=◌, ◌>>◌}
+use Rattle.parse_laws.specs.Parser.{Parser, Stopped, pure, refuse, choose, within, expect, take_by, repeat, sort, ◌>>=◌, ◌>>◌}
 use Rattle.grammar_rules.specs.Types.{is_list_word, is_tuple_word}
-use Rattle.grammar_rules.specs.Words.{is_keyword, is_comma, node_at, name_at, most_items}
+use Rattle.grammar_rules.specs.Words.{is_comma, node_at, name_at, most_items}
 use Rattle.parse_expressions.specs.declared.start.TypeStart.{TypeStart}
 use Rattle.parse_expressions.specs.declared.start.TypeStart.TheVariants.{Simple, ListWord, TupleWord, Nowhere}
 use Rattle.parse_expressions.specs.Reading.{is_square, is_square_close}

@@ -4,10 +4,10 @@ ghost use Rattle.grammar_rules.specs.Words.{is_op, is_keyword, is_word, node_at}
 ghost use Rattle.parse_laws.specs.Parser.{sees, expect};
 ghost use Rattle.parse_expressions.specs.Code.{ReadsToken};
 
+use codon_base::{NodeId, Spelling};
 use indent_lexer::{Token, TokenKind};
 use parse_laws::Cause;
 use source_trees::Node;
-use codon_base::{NodeId, Spelling};
 use std::alloc::AllocError;
 use std::marker::Model;
 

@@ -17,13 +17,11 @@ pub fn law_of_expressions()
     ensures exact { (room : ℕ) (f : Form) (ts : List Token) → Law (Spells f) (Limited (Spells f) (Low room)) (carries (looseness f)) ts (read room f ts) }
     ensures opens { (f : Form) (a : List Token) (x : Expr) → Spells f a x → (s : List Token) → sees (begins (opening f)) (a ++ s) ≡ true }
     ensures viable { (f : Form) (t : Token) → begins (opening f) t ≡ true → Viable (Spells f) (t ∷ []) }
-{
-}
+{}
 
 /// The parser of types is exact at every height, in the same way.
 pub fn law_of_types()
     ensures exact { (room : ℕ) (ts : List Token) → Law IsType (Limited IsType (LowType room)) is_square ts (read_type room ts) }
     ensures opens { (a : List Token) (x : Annotation) (s : List Token) → IsType a x → sees type_begins (a ++ s) ≡ true }
     ensures viable { (t : Token) → type_begins t ≡ true → Viable IsType (t ∷ []) }
-{
-}
+{}

@@ -7,9 +7,9 @@ ghost use Rattle.parse_expressions.specs.Forms.{row_of, opening_ops, opening_wor
 ghost use Rattle.parse_expressions.specs.Reading.{plain_at, constant, leaf_of, text_at, sign_at, in_or_symbol, compares, is_name, is_text};
 ghost use Rattle.parse_expressions.specs.Code.{Reads};
 
-use crate::measured::{self, Measured};
 use crate::Cursor;
 use crate::cursor::{ParseError, is_keyword, is_word, node_at, spells};
+use crate::measured::{self, Measured};
 use codon_base::Spelling;
 use grammar_rules::Rank;
 use indent_lexer::{Token, TokenKind};

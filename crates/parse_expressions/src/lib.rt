@@ -3,7 +3,7 @@
 //! `specs/Reading` and `specs/TypeReading` say how tokens are read one after the other. `law_of_expressions` and
 //! `law_of_types` promise that they answer exactly what the grammar says, at every limit of height. The code reads from a
 //! cursor over the tokens, keeps the height of each tree that it makes, and answers as those functions do; so far it has
-//! the leaves, texts, names, rows and arguments. It knows nothing of statements.
+//! the leaves, texts and names, and builders of trees. It knows nothing of statements.
 #![tactic(auto)]
 
 mod cursor;
@@ -11,13 +11,13 @@ mod form;
 mod laws;
 mod leaf;
 mod measured;
-mod reader;
 mod start;
+#[cfg(test)]
+mod tests;
 mod word;
 
 pub use cursor::{Cursor, ParseError, is_keyword, is_op, is_word, node_at};
 pub use form::Form;
 pub use laws::{law_of_expressions, law_of_types};
 pub use measured::{Comparisons, Measured, Row};
-pub use reader::{Expressions, OpenRow};
 pub use start::{Start, TypeStart, start_of, type_start_of};

@@ -8,8 +8,10 @@ ghost use Rattle.grammar_rules.specs.Expressions.{node_of};
 ghost use Rattle.parse_expressions.specs.Reading as spec;
 
 use codon_base::{Spelling, Text};
-use source_trees::{BinaryOp, Commas, Comparator, Comparison, Expr, LoopNames, Name, Node, UnaryOp};
 use grammar_rules::Junction;
+use source_trees::{
+    BinaryOp, Commas, Comparator, Comparison, Expr, LoopNames, Name, Node, UnaryOp,
+};
 use sqlite_items::{Boxed, Items};
 use std::alloc::{AllocError, Global};
 use std::marker::Model;
@@ -311,7 +313,12 @@ pub fn inverse(alloc: Global, node: Node, operand: Measured) -> Result<Measured,
 }
 
 /// An operand with a sign before it.
-pub fn unary(alloc: Global, node: Node, op: UnaryOp, operand: Measured) -> Result<Measured, AllocError>
+pub fn unary(
+    alloc: Global,
+    node: Node,
+    op: UnaryOp,
+    operand: Measured,
+) -> Result<Measured, AllocError>
     ensures { IfOk result (λ x. x ≡ Expr.Unary node op operand) }
 {
     let height = operand.height().saturating_add(1);
@@ -322,7 +329,12 @@ pub fn unary(alloc: Global, node: Node, op: UnaryOp, operand: Measured) -> Resul
 }
 
 /// `object.name`.
-pub fn field(alloc: Global, node: Node, object: Measured, name: Spelling) -> Result<Measured, AllocError>
+pub fn field(
+    alloc: Global,
+    node: Node,
+    object: Measured,
+    name: Spelling,
+) -> Result<Measured, AllocError>
     ensures { IfOk result (λ x. x ≡ Expr.Field node object name) }
 {
     let height = object.height().saturating_add(1);
@@ -333,7 +345,13 @@ pub fn field(alloc: Global, node: Node, object: Measured, name: Spelling) -> Res
 }
 
 /// An operator with its operands.
-pub fn binary(alloc: Global, node: Node, op: BinaryOp, left: Measured, right: Measured) -> Result<Measured, AllocError>
+pub fn binary(
+    alloc: Global,
+    node: Node,
+    op: BinaryOp,
+    left: Measured,
+    right: Measured,
+) -> Result<Measured, AllocError>
     ensures { IfOk result (λ x. x ≡ Expr.Binary node op left right) }
 {
     let height = left.height().max(right.height()).saturating_add(1);
@@ -346,7 +364,12 @@ pub fn binary(alloc: Global, node: Node, op: BinaryOp, left: Measured, right: Me
 }
 
 /// `object[place]`.
-pub fn index(alloc: Global, node: Node, object: Measured, place: Measured) -> Result<Measured, AllocError>
+pub fn index(
+    alloc: Global,
+    node: Node,
+    object: Measured,
+    place: Measured,
+) -> Result<Measured, AllocError>
     ensures { IfOk result (λ x. x ≡ Expr.Index node object place) }
 {
     let height = object.height().max(place.height()).saturating_add(1);
@@ -359,10 +382,20 @@ pub fn index(alloc: Global, node: Node, object: Measured, place: Measured) -> Re
 }
 
 /// `value if condition else other`.
-pub fn conditional(alloc: Global, node: Node, value: Measured, condition: Measured, other: Measured) -> Result<Measured, AllocError>
+pub fn conditional(
+    alloc: Global,
+    node: Node,
+    value: Measured,
+    condition: Measured,
+    other: Measured,
+) -> Result<Measured, AllocError>
     ensures { IfOk result (λ x. x ≡ Expr.Conditional node value condition other) }
 {
-    let height = value.height().max(condition.height()).max(other.height()).saturating_add(1);
+    let height = value
+        .height()
+        .max(condition.height())
+        .max(other.height())
+        .saturating_add(1);
     let value = Boxed::new(alloc, value.into_tree())?;
     let condition = Boxed::new(alloc, condition.into_tree())?;
     let other = Boxed::new(alloc, other.into_tree())?;
@@ -424,11 +457,19 @@ pub fn call(name: Name, row: Row) -> Measured
 }
 
 /// `object.name(arguments)`.
-pub fn method(alloc: Global, node: Node, object: Measured, name: Spelling, row: Row) -> Result<Measured, AllocError>
+pub fn method(
+    alloc: Global,
+    node: Node,
+    object: Measured,
+    name: Spelling,
+    row: Row,
+) -> Result<Measured, AllocError>
     ensures { IfOk result (λ x. x ≡ Expr.MethodCall node node object name row) }
 {
     let Row { items, height } = row;
-    let height = height.max(object.height().saturating_add(1)).saturating_add(1);
+    let height = height
+        .max(object.height().saturating_add(1))
+        .saturating_add(1);
     let object = Boxed::new(alloc, object.into_tree())?;
     Ok(Measured {
         tree: Expr::MethodCall(node, node, object, name, items),
@@ -438,7 +479,12 @@ pub fn method(alloc: Global, node: Node, object: Measured, name: Spelling, row: 
 
 /// A first operand and the comparisons beside it.
 #[tactic(auto, using(crate::proofs::Heights::compare_known))]
-pub fn compare(alloc: Global, node: Node, first: Measured, comparisons: Comparisons) -> Result<Measured, AllocError>
+pub fn compare(
+    alloc: Global,
+    node: Node,
+    first: Measured,
+    comparisons: Comparisons,
+) -> Result<Measured, AllocError>
     ensures { IfOk result (λ x. x ≡ Expr.Compare node first comparisons) }
 {
     let Comparisons { items, height } = comparisons;

@@ -58,7 +58,10 @@ fn start_of_kind(kind: &TokenKind) -> Start
             }
         }
         TokenKind::Keyword(spelling) => {
-            if spells(spelling, b"True".as_slice()) || spells(spelling, b"False".as_slice()) || spells(spelling, b"None".as_slice()) {
+            if spells(spelling, b"True".as_slice())
+                || spells(spelling, b"False".as_slice())
+                || spells(spelling, b"None".as_slice())
+            {
                 Start::Leaf
             } else {
                 Start::Nowhere
@@ -75,7 +78,9 @@ fn type_start_of_kind(kind: &TokenKind) -> TypeStart
         TokenKind::Name(spelling) => {
             if spells(spelling, b"list".as_slice()) || spells(spelling, b"List".as_slice()) {
                 TypeStart::ListWord
-            } else if spells(spelling, b"tuple".as_slice()) || spells(spelling, b"Tuple".as_slice()) {
+            } else if spells(spelling, b"tuple".as_slice())
+                || spells(spelling, b"Tuple".as_slice())
+            {
                 TypeStart::TupleWord
             } else {
                 TypeStart::Simple

@@ -1,4 +1,4 @@
-use Rattle.std.proofs.Common.{rules, arith, ◌∷◌, ◌++◌, []}
+use Rattle.std.proofs.Common.{rules, arith, ◌++◌}
 use Rattle.std.proofs.lemmas.Grind.{common_steps}
 use Rattle.parse_laws.specs.Parser.{repeat, take_by, pure, ◌>>=◌}
 use Rattle.grammar_rules.specs.Words.{text_of}

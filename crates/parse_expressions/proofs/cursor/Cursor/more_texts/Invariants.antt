@@ -1,4 +1,4 @@
-use Rattle.std.proofs.Common.{◌≡◌, ◌-◌, ◌∷◌, ◌++◌, []}
+use Rattle.std.proofs.Common.{◌≡◌, ◌-◌, ◌++◌}
 use Rattle.parse_laws.specs.Parser.{repeat, take_by, pure, ◌>>=◌}
 use Rattle.grammar_rules.specs.Words.{text_of}
 use Rattle.parse_expressions.specs.Reading.{more_texts, is_text}
