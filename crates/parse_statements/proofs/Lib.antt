@@ -1,0 +1,4 @@
+pub mod Commas
+pub mod Marks
+pub mod Items
+pub mod Targets

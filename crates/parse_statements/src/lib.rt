@@ -1,0 +1,2 @@
+//! The parser of statements, functions, classes and whole sources.
+#![tactic(auto)]
