@@ -1,6 +1,6 @@
 -- The laws of the forms under a limit: the part within the limit is always the language with a condition on its values,
 -- so that the laws compose without a word on how the limit is kept inside.
-use Rattle.std.proofs.Common.{◌≡◌, Bool, true, false, List, [], ◌∷◌, ◌++◌, refl, sym, ◌∙◌, ap, subst, inl, inr, Option}
+use Rattle.std.proofs.Common.{◌≡◌, Bool, true, false, List, [], ◌∷◌, ◌++◌, refl, sym, ◌∙◌, ap, subst, inl, inr, Option, Some}
 use Rattle.parse_laws.specs.declared.cause.Cause.TheVariants.{Unexpected}
 use Rattle.parse_laws.specs.Parser.{Outcome, Parsed, Stopped, Parser, and_then, sees, pure, choose, within, expect, take_by, ◌>>=◌, ◌>>◌}
 use Rattle.parse_laws.specs.Language.{Language, Free, Viable, Law}
@@ -165,3 +165,9 @@ module _ {K : Type 0} where
       let b = viable t h in
       deep_law G (Limited G fit) cont test true (λ a v s g free k. none refl a v s g.0 g.1 free k) (t ∷ ts) h
       (record { token = t; rest = ts; more = b.0; value = b.1; next = refl; spells = b.2 })
+
+  -- a table all of whose values are within the limit
+  pub pick_limited : {O : Type 0} (pick : K → Option O) (fit : O → Type 0) → ((t : K) (o : O) → pick t ≡ Some o → fit o) → (cont : K → Bool) (ts : List K)
+      → Law (Picks pick) (Limited (Picks pick) fit) cont ts (take_by pick ts)
+  pick_limited pick fit all cont ts =
+      rename_law (Picks pick) (Picks pick) (Picks pick) (Limited (Picks pick) fit) cont (λ a v g. g) (λ a v g. (g, all g.0 v g.2)) (λ a v g. g) (λ a v g. g.0) ts (take_by pick ts) (take_law pick cont ts)

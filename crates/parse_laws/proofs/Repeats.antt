@@ -11,7 +11,7 @@ use Rattle.parse_laws.proofs.Choices.{choose_law}
 use Rattle.parse_laws.proofs.Forms.{wider_at}
 
 module _ {K : Type 0} where
-  at_head : (f g : K → Bool) (x : Bool) → ((t : K) → f t ≡ true → g t ≡ x) → (ts : List K) → sees f ts ≡ true → sees g ts ≡ x
+  pub at_head : (f g : K → Bool) (x : Bool) → ((t : K) → f t ≡ true → g t ≡ x) → (ts : List K) → sees f ts ≡ true → sees g ts ≡ x
   at_head f g x all [] h = cc
   at_head f g x all (t ∷ ts) h = all t h
 
