@@ -200,6 +200,12 @@ module _ {K B : Type 0} (is_separator : K → Bool) (Item : Language K B) (allow
           rename_law (ItemAfter s) (Limited (ItemAfter s) fit) (ItemAfter s) (λ b y. ItemAfter s b y × FitEach fit (add s y)) contp
           (λ b y g. g) (λ b y g. (g.0, fit_add s y f g.1)) (λ b y g. g) (λ b y g. (g.0, fit_last s y g.1)) ts (item s ts) (item_law s f ts h)
 
+      -- a row after a first item and a separator
+      pub rows_law : (y : B) → fit y → (ts : List K)
+          → Law (Row is_separator ItemAfter add (y ∷ [], true)) (Limited (Row is_separator ItemAfter add (y ∷ [], true)) (λ r. FitEach fit r.0)) cont ts
+          (repeat (row_test is_separator starts) (row_turn is_separator item (λ v z. v ++ z ∷ [])) (length ts) (y ∷ [], true) ts)
+      rows_law y h ts = row_law is_separator ItemAfter add starts contp cont (FitEach fit) row_items item within_item (y ∷ [], true) (h, tt) ts
+
       pub following_law : {C : Type 0} (f : List B → C) (fit_all : C → Type 0) → Carries f (FitEach fit) fit_all → (y : B) → fit y → (ts : List K)
           → Law (Following f y) (Limited (Following f y) fit_all) cont ts
           (and_then (expect is_separator ts) (λ _. (λ us. repeat (row_test is_separator starts) (row_turn is_separator item (λ v z. v ++ z ∷ [])) (length us) (y ∷ [], true) us) >>= λ s. pure (f s.0)))
@@ -209,7 +215,7 @@ module _ {K B : Type 0} (is_separator : K → Bool) (Item : Language K B) (allow
           ts _
           (λ t r i e. made_limited (Row is_separator ItemAfter add (y ∷ [], true)) cont (λ s. f s.0) (λ s. FitEach fit s.0) fit_all
           (record { grows = λ s k. carries.grows s.0 k; shrinks = λ s k. carries.shrinks s.0 k }) r _
-          (row_law is_separator ItemAfter add starts contp cont (FitEach fit) row_items item within_item (y ∷ [], true) (h, tt) r))
+          (rows_law y h r))
 
 -- ---- a bound on the number of items
 

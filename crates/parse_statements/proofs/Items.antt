@@ -9,7 +9,8 @@ use Rattle.source_trees.specs.declared.expression.Commas.TheVariants.{Bare}
 use Rattle.source_trees.specs.declared.expression.Expr.{Expr}
 use Rattle.source_trees.specs.declared.expression.Expr.TheVariants as e
 use Rattle.source_trees.specs.Heights.{highest, over_parts, height_of_expr}
-use Rattle.source_trees.proofs.Equations.{expr_Tuple}
+use Rattle.parse_expressions.proofs.Heights.{height-Tuple}
+use Rattle.parse_expressions.proofs.Lows.{highest_up, highest_down}
 use Rattle.parse_laws.specs.Parser.{Parsed, and_then, sees, pure, choose, within}
 use Rattle.parse_laws.specs.Language.{Language, Free, Viable, Law}
 use Rattle.parse_laws.specs.Forms.{Then, Made, Is, Either}
@@ -38,19 +39,6 @@ pub list_row : (a : List Token) (w : List Expr × Bool) → Listed is_comma IsEx
 list_row _ _ (last a x p) = row_last a x p
 list_row _ _ (trailing a x t p h) = row_trailing a x t p h
 list_row _ _ (another a x t b xs more p h rest) = row_another a x t b xs more p h (list_row b (xs, more) rest)
-
--- ---- heights
-
-pub highest_each : (n : ℕ) (xs : List Expr) → highest (map height_of_expr xs) ≤ n → FitEach (Low n) xs
-highest_each n [] h = tt
-highest_each n (x ∷ xs) h = (omega arith, highest_each n xs (omega arith))
-
-pub each_highest : (n : ℕ) (xs : List Expr) → FitEach (Low n) xs → highest (map height_of_expr xs) ≤ n
-each_highest n [] f = omega arith
-each_highest n (x ∷ xs) f = let k = each_highest n xs f.1 in let h = f.0 in omega arith
-
-pub tuple_height : (n : Node) (c : Commas) (xs : List Expr) → height_of_expr (e.Tuple n c xs) ≡ highest (map height_of_expr xs) + 1
-tuple_height n c xs = expr_Tuple over_parts n c xs
 
 -- ---- the language
 
@@ -116,7 +104,7 @@ others_high : (n : ℕ) (x : Expr) (a : List Token) (w : Expr) → Others x a w 
 others_high n x a w g f =
     let d = first_kept is_comma IsExpr (up_to most_items) (paired x) x a w g in
     let P : Expr → Type 0 = λ z. Low n z in
-    let l = tuple_height (node_of x) Bare (x ∷ d.0) in
+    let l = height-Tuple (node_of x) Bare (x ∷ d.0) in
     let k : height_of_expr (paired x (x ∷ d.0)) ≤ n = subst P d.1 f in
     omega arith
 
@@ -153,8 +141,8 @@ module _ (r : Readers) (exact : Exact r) where
   others_law n x h ts =
       following_law is_comma IsExpr (up_to most_items) (Low (n - 1)) (starts_in has_room starts_expr) expr_on items_on given (λ _. r.expr (n - 1)) (item_law (n - 1)) (paired x) (Low n)
       (record {
-        grows = λ xs f. let k = each_highest (n - 1) xs f in let l = tuple_height (node_of x) Bare xs in omega arith;
-        shrinks = λ xs f. let l = tuple_height (node_of x) Bare xs in highest_each (n - 1) xs (omega arith);
+        grows = λ xs f. let k = highest_up (n - 1) xs f in let l = height-Tuple (node_of x) Bare xs in omega arith;
+        shrinks = λ xs f. let l = height-Tuple (node_of x) Bare xs in highest_down (n - 1) xs (omega arith);
       }) x (omega arith) ts
 
   tail_law : (n : ℕ) (x : Expr) → Low n x → (ts : List Token)

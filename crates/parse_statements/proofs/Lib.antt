@@ -2,3 +2,6 @@ pub mod Commas
 pub mod Marks
 pub mod Items
 pub mod Targets
+pub mod Heights
+pub mod States
+pub mod Heads

@@ -252,6 +252,9 @@ print_name_print a x g = ap is_print g.3 ∙ print_by _ _ (out_Name _ _)
 pub print_name_target : (a : List Token) (x : Expr) (g : IsPrintName a x) → target_of x ≡ Some (target.Name (node_at g.0) (codes "print"))
 print_name_target a x g = ap target_of g.3 ∙ target_by _ _ (out_Name _ _)
 
+pub print_name_pointed : (a : List Token) (x : Expr) → IsPrintName a x → is_pointed x ≡ true
+print_name_pointed a x g = print_pointed x (print_name_print a x g)
+
 named_print : (t : Token) (s : List ℕ) → name_of t ≡ Some s → is_word (codes "print") t ≡ true → s ≡ codes "print"
 named_print t s h k = (bytes_eq-Decides s (codes "print")).0 (sym (word_of_name (codes "print") t s h) ∙ k)
 
@@ -286,36 +289,6 @@ print_target a x w g h =
 step_out : (x : Expr) → height_of_expr x ≡ expr_step over_parts (map-Expr _ _ _ _ (of_expr over_parts) (of_comparison over_parts) (out-Expr x))
 unfolding of_expr of_comparison
 step_out x = fold_out-Expr ℕ ℕ (expr_step over_parts) (comparison_step over_parts) x
-
-step_positive : (f : Expr-F ℕ ℕ) → 1 ≤ expr_step over_parts f
-step_positive (Expr-F.Name a b) = omega arith
-step_positive (Expr-F.Number a b) = omega arith
-step_positive (Expr-F.Text a b) = omega arith
-step_positive (Expr-F.True a) = omega arith
-step_positive (Expr-F.False a) = omega arith
-step_positive (Expr-F.None a) = omega arith
-step_positive (Expr-F.Bracketed a b) = omega arith
-step_positive (Expr-F.Tuple a b c) = omega arith
-step_positive (Expr-F.List a b) = omega arith
-step_positive (Expr-F.Comprehension a b c d e) = omega arith
-step_positive (Expr-F.Conditional a b c d) = omega arith
-step_positive (Expr-F.Or a b) = omega arith
-step_positive (Expr-F.And a b) = omega arith
-step_positive (Expr-F.Not a b) = omega arith
-step_positive (Expr-F.Compare a b c) = omega arith
-step_positive (Expr-F.Unary a b c) = omega arith
-step_positive (Expr-F.Binary a b c d) = omega arith
-step_positive (Expr-F.Call a b c) = omega arith
-step_positive (Expr-F.MethodCall a b c d e) = omega arith
-step_positive (Expr-F.Index a b c) = omega arith
-step_positive (Expr-F.Slice a b c d) = omega arith
-step_positive (Expr-F.Field a b c) = omega arith
-
-pub expr_positive : (x : Expr) → 1 ≤ height_of_expr x
-expr_positive x =
-    let k = step_positive (map-Expr _ _ _ _ (of_expr over_parts) (of_comparison over_parts) (out-Expr x)) in
-    let l = step_out x in
-    omega arith
 
 height_in : (f : Expr-F Expr Comparison) (w : Target) → target_in f ≡ Some w → height_of_target w ≡ expr_step over_parts (map-Expr _ _ _ _ (of_expr over_parts) (of_comparison over_parts) f)
 height_in (Expr-F.Name n s) w h = ap height_of_target (some_inj _ _ (sym h))

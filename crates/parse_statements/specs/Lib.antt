@@ -1,3 +1,5 @@
 pub mod Targets
 pub mod Readers
 pub mod Items
+pub mod Heads
+pub mod Forms

@@ -4,7 +4,8 @@ use Rattle.std.specs.Prelude.{◌≡◌, ℕ, ◌≤◌, Bool, true, List, ◌++
 use Rattle.indent_lexer.specs.declared.token.Token.{Token}
 use Rattle.source_trees.specs.declared.expression.Expr.{Expr}
 use Rattle.source_trees.specs.declared.item.Annotation.{Annotation}
-use Rattle.source_trees.specs.Heights.{height_of_annotation}
+use Rattle.source_trees.specs.declared.statement.Stmt.{Stmt}
+use Rattle.source_trees.specs.Heights.{height_of_annotation, height_of_stmt}
 use Rattle.parse_laws.specs.Parser.{Parser, sees}
 use Rattle.parse_laws.specs.Language.{Law}
 use Rattle.parse_laws.specs.Limits.{Limited}
@@ -38,6 +39,10 @@ starts_postfix = begins (opening form.Postfix)
 -- the type has at most this height
 abbrev pub LowType : ℕ → Annotation → Type 0
 LowType room x = height_of_annotation x ≤ room
+
+-- the statement has at most this height
+abbrev pub LowStmt : ℕ → Stmt → Type 0
+LowStmt room s = height_of_stmt s ≤ room
 
 -- parsers at each limit of height
 pub record Readers : Type 0 where
