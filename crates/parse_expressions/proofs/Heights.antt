@@ -1,19 +1,17 @@
 -- The height of each form of expression by those of its parts: it is within a limit exactly where each part is one lower.
-use Rattle.std.proofs.Common.{◌≡◌, ℕ, ℤ, zero, suc, ◌+◌, ◌≤◌, max, List, [], ◌∷◌, ◌++◌, map, refl, sym, ◌∙◌, ap, subst, Option, Some, None, arith}
+use Rattle.std.proofs.Common.{◌≡◌, ℕ, ℤ, ◌+◌, max, List, [], ◌∷◌, ◌++◌, map, sym, ◌∙◌, ap, Option, Some, None}
 use Rattle.source_trees.specs.declared.node.Node.{Node}
 use Rattle.source_trees.specs.declared.node.Name.{Name}
 use Rattle.source_trees.specs.declared.expression.Commas.{Commas}
 use Rattle.source_trees.specs.declared.expression.Comparison.{Comparison}
 use Rattle.source_trees.specs.declared.expression.Expr.{Expr, Expr-F}
-use Rattle.source_trees.specs.declared.expression.Expr.TheFolds.{fold-Expr, fold-Comparison, fold-roll-Expr, fold_out-Comparison}
+use Rattle.source_trees.specs.declared.expression.Expr.TheFolds.{fold-roll-Expr, fold_out-Comparison}
 use Rattle.source_trees.specs.declared.expression.Expr.TheVariants as e
 use Rattle.source_trees.specs.declared.operator.BinaryOp.{BinaryOp}
 use Rattle.source_trees.specs.declared.operator.UnaryOp.{UnaryOp}
 use Rattle.source_trees.specs.declared.statement.LoopNames.{LoopNames}
 use Rattle.source_trees.specs.Heights.{highest, over_parts, height_of_expr}
 use Rattle.source_trees.specs.Parts.{of_loop_names, of_expr, of_comparison, expr_step, comparison_step}
-use Rattle.parse_laws.proofs.Lists.{FitEach}
-use Rattle.parse_expressions.specs.Forms.{Low}
 
 pub height-Name : (n : Node) (s : List ℕ) → height_of_expr (e.Name n s) ≡ 1
 unfolding of_expr

@@ -1,5 +1,5 @@
 -- A least text of each form of expression, and a text that begins with each token that begins the form.
-use Rattle.std.proofs.Common.{◌≡◌, ℕ, ◌≤◌, ◌<◌, nat_le, Bool, true, false, cond, List, [], ◌∷◌, ◌++◌, refl, sym, ◌∙◌, ap, subst, Option, Some, None, codes, arith}
+use Rattle.std.proofs.Common.{◌≡◌, ℕ, ◌≤◌, ◌<◌, nat_le, Bool, true, false, cond, List, [], ◌∷◌, ◌++◌, refl, ◌∙◌, ap, Some, codes, arith}
 use Rattle.std.specs.Str.{bytes_eq}
 use Rattle.std.proofs.lemmas.Bool.{leb-true}
 use Rattle.indent_lexer.specs.declared.token.Token.{Token}
@@ -138,13 +138,18 @@ sign_is t k word o e f h = ap (λ z. entry_of (op_in z) signs) (e ∙ f) ∙ h
 
 lead_op : (t : Token) (k : ℕ) → k < nowhere → (spelling : List ℕ) → t.kind ≡ kind.Op spelling → nat_le (row_of opening_ops spelling) k ≡ true → Leads t k
 lead_op t k small spelling e h =
-    by_row k small spelling opening_ops
-    (
+    by_row k small spelling opening_ops (
       (λ f l. (1, leb-true 1 k l, an_atom (begins_bracket t (op_is t (kind.Op spelling) (codes "(") e (ap (λ z. kind.Op z) f) refl)))),
-      ((λ f l. (1, leb-true 1 k l, an_atom (begins_square t (op_is t (kind.Op spelling) (codes "[") e (ap (λ z. kind.Op z) f) refl)))),
-      ((λ f l. (2, leb-true 2 k l, a_sign unary.Plus (sign_is t (kind.Op spelling) (codes "+") unary.Plus e (ap (λ z. kind.Op z) f) refl))),
-      ((λ f l. (2, leb-true 2 k l, a_sign unary.Minus (sign_is t (kind.Op spelling) (codes "-") unary.Minus e (ap (λ z. kind.Op z) f) refl))),
-      ((λ f l. (2, leb-true 2 k l, a_sign unary.Invert (sign_is t (kind.Op spelling) (codes "~") unary.Invert e (ap (λ z. kind.Op z) f) refl))), tt)))),
+      (
+        (λ f l. (1, leb-true 1 k l, an_atom (begins_square t (op_is t (kind.Op spelling) (codes "[") e (ap (λ z. kind.Op z) f) refl)))),
+        (
+          (λ f l. (2, leb-true 2 k l, a_sign unary.Plus (sign_is t (kind.Op spelling) (codes "+") unary.Plus e (ap (λ z. kind.Op z) f) refl))),
+          (
+            (λ f l. (2, leb-true 2 k l, a_sign unary.Minus (sign_is t (kind.Op spelling) (codes "-") unary.Minus e (ap (λ z. kind.Op z) f) refl))),
+            ((λ f l. (2, leb-true 2 k l, a_sign unary.Invert (sign_is t (kind.Op spelling) (codes "~") unary.Invert e (ap (λ z. kind.Op z) f) refl))), tt),
+          ),
+        ),
+      ),
     )
     h
 
@@ -152,12 +157,15 @@ lead_word : (t : Token) (k : ℕ) → k < nowhere → (spelling : List ℕ) → 
 lead_word t k small spelling e h =
     let is : (word : List ℕ) → spelling ≡ word → bytes_eq word word ≡ true → is_keyword word t ≡ true =
     λ word f i. keyword_is t (kind.Keyword spelling) word e (ap (λ z. kind.Keyword z) f) i in
-    by_row k small spelling opening_words
-    (
+    by_row k small spelling opening_words (
       (λ f l. (1, leb-true 1 k l, an_atom ([], expr.True (node_at t), g.yes t (is (codes "True") f refl)))),
-      ((λ f l. (1, leb-true 1 k l, an_atom ([], expr.False (node_at t), g.no t (is (codes "False") f refl)))),
-      ((λ f l. (1, leb-true 1 k l, an_atom ([], expr.None (node_at t), g.nothing t (is (codes "None") f refl)))),
-      ((λ f l. (3, leb-true 3 k l, a_not (is (codes "not") f refl))), tt))),
+      (
+        (λ f l. (1, leb-true 1 k l, an_atom ([], expr.False (node_at t), g.no t (is (codes "False") f refl)))),
+        (
+          (λ f l. (1, leb-true 1 k l, an_atom ([], expr.None (node_at t), g.nothing t (is (codes "None") f refl)))),
+          ((λ f l. (3, leb-true 3 k l, a_not (is (codes "not") f refl))), tt),
+        ),
+      ),
     )
     h
 

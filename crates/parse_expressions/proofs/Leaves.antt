@@ -1,27 +1,26 @@
 -- The laws of names with commas and of texts side by side, which hold no expression.
-use Rattle.std.proofs.Common.{◌≡◌, ℕ, suc, ◌+◌, ◌≤◌, Bool, true, false, cond, ◌||◌, List, [], ◌∷◌, ◌++◌, length, refl, sym, ◌∙◌, ap, subst, Option, Some, None, codes, append_assoc, arith}
+use Rattle.std.proofs.Common.{◌≡◌, ℕ, suc, Bool, true, ◌||◌, List, [], ◌∷◌, ◌++◌, length, refl, sym, ◌∙◌, ap, subst, Option, append_assoc, arith}
 use Rattle.std.proofs.lemmas.List.{append-nil}
 use Rattle.indent_lexer.specs.declared.token.Token.{Token}
 use Rattle.source_trees.specs.declared.expression.Expr.{Expr}
 use Rattle.source_trees.specs.declared.expression.Expr.TheVariants as e
 use Rattle.source_trees.specs.declared.node.Node.{Node}
-use Rattle.source_trees.specs.declared.node.Name.{Name}
-use Rattle.source_trees.specs.declared.statement.LoopNames.{LoopNames}
-use Rattle.parse_laws.specs.Parser.{Parser, sees, pure, take_by, has, in_table, repeat, ◌>>=◌}
-use Rattle.parse_laws.specs.Language.{Language, Free, Law}
+use Rattle.parse_laws.specs.Parser.{sees, pure, take_by, has, in_table, ◌>>=◌}
+use Rattle.parse_laws.specs.Language.{Language, Law}
 use Rattle.parse_laws.specs.Forms.{Then, Picks, Made, never}
 use Rattle.parse_laws.specs.Limits.{Limited}
-use Rattle.parse_laws.specs.Loops.{Turns, done, next, Repeated, Listed, Grows, ListedWithin, ListItems}
+use Rattle.parse_laws.specs.Loops.{Turns, done, next, Repeated, Grows, ListedWithin, ListItems}
 use Rattle.parse_laws.proofs.Forms.{free_never}
 use Rattle.parse_laws.proofs.Lists.{FitEach, listed_law}
 use Rattle.parse_laws.proofs.Limits.{same_law, made_limited, take_limited, join_law}
 use Rattle.parse_laws.proofs.Repeats.{repeat_law}
 use Rattle.grammar_rules.specs.Expressions as g
 use Rattle.grammar_rules.specs.Expressions.{IsNames, IsTexts, loop_names}
-use Rattle.grammar_rules.specs.Words.{is_comma, text_of, name_at, node_at}
+use Rattle.grammar_rules.specs.Words.{is_comma, text_of, name_at}
 use Rattle.parse_expressions.specs.Forms.{Low}
 use Rattle.parse_expressions.specs.Reading as reading
 use Rattle.parse_expressions.specs.Reading.{is_name, is_text, any_number, text_at}
+use Rattle.parse_expressions.proofs.Tokens.{or_first, or_second}
 use Rattle.parse_expressions.proofs.Heights.{height-Text}
 
 -- no limit
@@ -44,14 +43,6 @@ picks_opens pick a o s p = ap (λ z. sees (has pick) (z ++ s)) p.1 ∙ ap in_tab
 -- what carries a row of names on
 abbrev pub names_carry : Token → Bool
 names_carry t = is_comma t || is_name t
-
-or_first : (x y : Bool) → x ≡ true → x || y ≡ true
-or_first true y h = refl
-or_first false y h = absurd (cc)
-
-or_second : (x y : Bool) → y ≡ true → x || y ≡ true
-or_second true y h = refl
-or_second false y h = h
 
 names_given : ListItems is_comma (Picks name_at) is_name never names_carry
 names_given = record {
@@ -91,7 +82,7 @@ unfolding reading.more_texts
 more_law v ts =
     repeat_law (λ v. is_text) Step (λ v. never) is_text Free_of_limit repeated (λ w. take_by text_of >>= λ value. pure (w ++ value))
     (λ w f us h. made_limited (Picks text_of) never (λ value. w ++ value) Free_of_limit Free_of_limit (record { grows = λ x i. tt; shrinks = λ x i. tt }) us _
-        (take_limited text_of Free_of_limit (λ o. tt) never us))
+    (take_limited text_of Free_of_limit (λ o. tt) never us))
     (length ts) v ts (omega arith) tt
 
 -- a first text and those beside it
@@ -124,4 +115,4 @@ texts_law room ts =
     }) ts (take_by text_at ts) (take_limited text_at Free_of_limit (λ o. tt) never ts)
     (λ first. reading.more_texts first.1 >>= λ value. pure (e.Text first.0 value))
     (λ used v r p f h. made_limited (Turns Step v.1) is_text (λ value. e.Text v.0 value) Free_of_limit (Low (suc room))
-        (record { grows = λ x i. low v.0 x; shrinks = λ x i. tt }) r _ (more_law v.1 r))
+    (record { grows = λ x i. low v.0 x; shrinks = λ x i. tt }) r _ (more_law v.1 r))

@@ -6,3 +6,10 @@ pub mod Rows
 pub mod Lows
 pub mod Leaves
 pub mod Squares
+pub mod Atoms
+pub mod Postfixes
+pub mod Operators
+pub mod Flat
+pub mod Conditions
+pub mod Junctions
+pub mod Wholes

@@ -1,12 +1,10 @@
 -- Lists of trees within a limit of height.
-use Rattle.std.proofs.Common.{◌≡◌, ℕ, zero, suc, ◌+◌, ◌≤◌, max, nat_le, Bool, true, false, List, [], ◌∷◌, ◌++◌, map, refl, sym, ◌∙◌, ap, subst, Option, Some, None, codes, arith}
+use Rattle.std.proofs.Common.{◌≡◌, ℕ, ◌≤◌, max, nat_le, true, false, List, [], ◌∷◌, ◌++◌, map, sym, subst, Option, Some, None, codes, arith}
 use Rattle.std.proofs.lemmas.Bool.{le-leb, leb-true}
-use Rattle.source_trees.specs.declared.node.Node.{Node}
 use Rattle.source_trees.specs.declared.node.Name.{Name}
 use Rattle.source_trees.specs.declared.expression.Comparison.{Comparison}
-use Rattle.source_trees.specs.declared.expression.Expr.{Expr, Expr-F, out-Expr}
+use Rattle.source_trees.specs.declared.expression.Expr.{Expr, Expr-F}
 use Rattle.source_trees.specs.declared.expression.Expr.TheFolds.{fold_out-Expr}
-use Rattle.source_trees.specs.declared.expression.Expr.TheVariants as e
 use Rattle.source_trees.specs.declared.statement.LoopNames.{LoopNames}
 use Rattle.source_trees.specs.declared.statement.LoopNames.TheVariants as names
 use Rattle.source_trees.specs.Heights.{highest, over_parts, height_of_expr}

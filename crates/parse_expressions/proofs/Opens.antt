@@ -1,13 +1,12 @@
 -- The token that each form of expression begins with, and a least text of each form.
-use Rattle.std.proofs.Common.{◌≡◌, ℕ, ◌≤◌, nat_le, Bool, true, false, cond, List, [], ◌∷◌, ◌++◌, refl, sym, ◌∙◌, ap, Option, Some, None, codes, append_assoc, arith}
-use Rattle.codon_base.specs.declared.source.Span.{Span}
+use Rattle.std.proofs.Common.{◌≡◌, ℕ, ◌≤◌, nat_le, true, cond, List, [], ◌∷◌, ◌++◌, refl, sym, ◌∙◌, ap, Option, Some, None, codes, append_assoc, arith}
 use Rattle.indent_lexer.specs.declared.token.Token.{Token}
 use Rattle.indent_lexer.specs.declared.token.TokenKind.{TokenKind}
 use Rattle.indent_lexer.specs.declared.token.TokenKind.TheVariants as kind
 use Rattle.source_trees.specs.declared.expression.Expr.{Expr}
 use Rattle.source_trees.specs.declared.expression.Expr.TheVariants as e
 use Rattle.source_trees.specs.declared.node.Name.{Name}
-use Rattle.parse_laws.specs.Parser.{sees, has, in_table}
+use Rattle.parse_laws.specs.Parser.{sees}
 use Rattle.parse_laws.proofs.Repeats.{at_head}
 use Rattle.grammar_rules.specs.declared.level.Junction.{Junction}
 use Rattle.grammar_rules.specs.declared.level.Junction.TheVariants as junction
@@ -16,7 +15,7 @@ use Rattle.grammar_rules.specs.declared.level.Rank.TheVariants as rank
 use Rattle.grammar_rules.specs.Expressions as g
 use Rattle.grammar_rules.specs.Expressions.{IsExpr, IsJoined, IsJoint, IsNot, IsCompared, IsRanked, IsOperand, IsFactor, IsPostfix, IsAtom}
 use Rattle.grammar_rules.specs.Levels.{signs}
-use Rattle.grammar_rules.specs.Words.{is_op, is_keyword, name_of, named_by, name_at, look_up, node_at}
+use Rattle.grammar_rules.specs.Words.{is_op, is_keyword, name_of, named_by, node_at}
 use Rattle.parse_expressions.specs.declared.form.Form.{Form}
 use Rattle.parse_expressions.specs.declared.form.Form.TheVariants as form
 use Rattle.parse_expressions.specs.Forms.{Spells, opened_by, opening, begins, nowhere}

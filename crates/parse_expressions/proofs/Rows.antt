@@ -1,13 +1,13 @@
 -- The laws of rows of expressions with commas, and of arguments in brackets.
-use Rattle.std.proofs.Common.{◌≡◌, ℕ, zero, suc, ◌+◌, ◌≤◌, nat_le, nat_lt, Bool, true, false, cond, ◌||◌, List, [], ◌∷◌, ◌++◌, length, refl, sym, ◌∙◌, ap, subst, Option, Some, None, codes, inl, inr, arith, append_assoc}
+use Rattle.std.proofs.Common.{◌≡◌, ℕ, ◌≤◌, nat_le, Bool, true, false, ◌||◌, List, [], ◌∷◌, ◌++◌, length, refl, sym, ◌∙◌, ap, subst, codes, inl, inr, arith, append_assoc}
 use Rattle.indent_lexer.specs.declared.token.Token.{Token}
 use Rattle.indent_lexer.specs.declared.token.TokenKind.TheVariants as kind
 use Rattle.source_trees.specs.declared.expression.Expr.{Expr}
 use Rattle.parse_laws.specs.Parser.{Parser, sees, pure, choose, expect, ◌>>=◌, ◌>>◌}
-use Rattle.parse_laws.specs.Language.{Language, Free, Viable, Law}
+use Rattle.parse_laws.specs.Language.{Language, Law}
 use Rattle.parse_laws.specs.Forms.{Ends, Opens, Closes, Either}
 use Rattle.parse_laws.specs.Limits.{Limited}
-use Rattle.parse_laws.specs.Loops.{Listed, last, trailing, another, Grows, ListedWithin, ListItems}
+use Rattle.parse_laws.specs.Loops.{Listed, last, trailing, another, ListedWithin, ListItems}
 use Rattle.parse_laws.proofs.Lists.{FitEach, most_of, grows_of, listed_law}
 use Rattle.parse_laws.proofs.Limits.{same_law, open_limited, close_limited, end_limited, either_law}
 use Rattle.parse_laws.proofs.Repeats.{at_head}
@@ -16,11 +16,11 @@ use Rattle.grammar_rules.specs.Expressions.{IsExpr, IsRow, IsArguments}
 use Rattle.grammar_rules.specs.Words.{op_in, is_spelled, is_op, is_comma, most_items}
 use Rattle.parse_expressions.specs.declared.form.Form.{Form}
 use Rattle.parse_expressions.specs.declared.form.Form.TheVariants as form
-use Rattle.parse_expressions.specs.Forms.{Spells, Low, carried_by, opened_by, looseness, opening, begins, carries}
+use Rattle.parse_expressions.specs.Forms.{Spells, Low, carried_by, opened_by, looseness, begins, carries}
 use Rattle.parse_expressions.specs.Reading as reading
 use Rattle.parse_expressions.specs.Reading.{is_open, is_close, few}
-use Rattle.parse_expressions.proofs.Tokens.{op_kind, not_op}
-use Rattle.parse_expressions.proofs.Opens.{x_token, op_token, opens}
+use Rattle.parse_expressions.proofs.Tokens.{or_first, or_second, or_none, op_kind, not_op}
+use Rattle.parse_expressions.proofs.Opens.{op_token, opens}
 
 -- the parts of trees are read by their law
 abbrev pub Reads : ℕ → (Form → Parser Token Expr) → Type 0
@@ -48,18 +48,6 @@ listed_opens _ _ (another a x c b xs more p h q) s = ap (sees (begins 3)) (appen
 -- what carries a row on
 abbrev pub row_carries : Token → Bool
 row_carries t = is_comma t || (begins 3 t || carries 12 t)
-
-or_first : (x y : Bool) → x ≡ true → x || y ≡ true
-or_first true y h = refl
-or_first false y h = absurd (cc)
-
-or_second : (x y : Bool) → y ≡ true → x || y ≡ true
-or_second true y h = refl
-or_second false y h = h
-
-or_none : (x y : Bool) → x || y ≡ false → y ≡ false
-or_none true y h = absurd (cc)
-or_none false y h = h
 
 pub row_given : ListItems is_comma IsExpr (begins 3) (carries 12) row_carries
 row_given = record {
@@ -104,12 +92,12 @@ module _ (room : ℕ) (sub : Form → Parser Token Expr) (below : Reads room sub
       let A : List Token → Type 0 = λ z. IsArguments z xs in
       elim w.4 as (λ _. IsArguments a xs) [
         | inl k ↦
-          let X : List Expr → Type 0 = λ z. IsArguments (w.0 ∷ k.0 ∷ []) z in
-          subst A (sym (w.2 ∙ ap (λ z. w.0 ∷ z) k.1)) (subst X (sym k.3) (g.no_arguments w.0 k.0 w.3 k.2))
+            let X : List Expr → Type 0 = λ z. IsArguments (w.0 ∷ k.0 ∷ []) z in
+            subst A (sym (w.2 ∙ ap (λ z. w.0 ∷ z) k.1)) (subst X (sym k.3) (g.no_arguments w.0 k.0 w.3 k.2))
         | inr k ↦
-          let X : List Expr → Type 0 = λ z. IsArguments (w.0 ∷ (k.0 ++ k.2 ∷ [])) z in
-          let l : length (k.1.0) ≤ most_items = let m = most_of most_items [] k.1.0 (omega arith) k.4.1 in omega arith in
-          subst A (sym (w.2 ∙ ap (λ z. w.0 ∷ z) k.3)) (subst X (sym k.6) (g.arguments w.0 k.0 k.1.0 k.1.1 k.2 w.3 (row_from k.0 k.1 k.4.0) l k.5))
+            let X : List Expr → Type 0 = λ z. IsArguments (w.0 ∷ (k.0 ++ k.2 ∷ [])) z in
+            let l : length (k.1.0) ≤ most_items = let m = most_of most_items [] k.1.0 (omega arith) k.4.1 in omega arith in
+            subst A (sym (w.2 ∙ ap (λ z. w.0 ∷ z) k.3)) (subst X (sym k.6) (g.arguments w.0 k.0 k.1.0 k.1.1 k.2 w.3 (row_from k.0 k.1 k.4.0) l k.5))
       ]
 
   close_ends_row : (t : Token) → is_close t ≡ true → row_carries t ≡ false
@@ -127,7 +115,7 @@ module _ (room : ℕ) (sub : Form → Parser Token Expr) (below : Reads room sub
       (expect is_close >>= λ _. pure []) (reading.row room sub few >>= λ xs. expect is_close >> pure xs.0) ts
       (λ h. end_limited is_close [] (FitEach (Low room)) tt cont ts)
       (λ h. close_limited is_close (op_token (codes ")")) refl (Row few) row_carries cont close_ends_row (λ w. w.0) (LowRow room) (FitEach (Low room))
-          (record { grows = λ w f. f; shrinks = λ w f. f }) ts (reading.row room sub few ts) (row_law few refl ts))
+      (record { grows = λ w f. f; shrinks = λ w f. f }) ts (reading.row room sub few ts) (row_law few refl ts))
 
   pub arguments_law : (cont : Token → Bool) (ts : List Token) → Law IsArguments (Limited IsArguments (FitEach (Low room))) cont ts (reading.arguments room sub ts)
   unfolding reading.arguments

@@ -1,6 +1,5 @@
 -- The law of what stands in square brackets: a list, or a comprehension.
-use Rattle.std.proofs.Common.{◌≡◌, ℕ, zero, suc, ◌+◌, ◌≤◌, max, nat_le, Bool, true, false, cond, ◌||◌, List, [], ◌∷◌, ◌++◌, map, refl, sym, ◌∙◌, ap, subst, Option, Some, None, codes, inl, inr, append_assoc, arith}
-use Rattle.std.proofs.lemmas.List.{append-nil}
+use Rattle.std.proofs.Common.{◌≡◌, ℕ, suc, ◌≤◌, nat_le, Bool, true, false, ◌||◌, List, [], ◌∷◌, ◌++◌, refl, sym, ◌∙◌, ap, subst, Option, Some, None, codes, inl, inr, append_assoc, arith}
 use Rattle.indent_lexer.specs.declared.token.Token.{Token}
 use Rattle.indent_lexer.specs.declared.token.TokenKind.TheVariants as kind
 use Rattle.source_trees.specs.declared.expression.Expr.{Expr}
@@ -8,33 +7,33 @@ use Rattle.source_trees.specs.declared.expression.Expr.TheVariants as e
 use Rattle.source_trees.specs.declared.node.Node.{Node}
 use Rattle.source_trees.specs.declared.node.Name.{Name}
 use Rattle.source_trees.specs.declared.statement.LoopNames.{LoopNames}
-use Rattle.source_trees.specs.Heights.{highest, over_parts, height_of_expr}
+use Rattle.source_trees.specs.Heights.{over_parts, height_of_expr}
 use Rattle.source_trees.specs.Parts.{of_loop_names}
 use Rattle.parse_laws.specs.Parser.{Parser, and_then, in_table, sees, pure, choose, expect, ◌>>=◌, ◌>>◌}
-use Rattle.parse_laws.specs.Language.{Language, Free, Viable, Law}
+use Rattle.parse_laws.specs.Language.{Language, Free, Law}
 use Rattle.parse_laws.specs.Forms.{Then, Is, Ends, Opens, Closes, Made, Either}
-use Rattle.parse_laws.specs.Limits.{Limited, Joins, Carries}
-use Rattle.parse_laws.specs.Loops.{Turns, done, next, last, RowState, RowStep, Listed, ListItems, finished}
+use Rattle.parse_laws.specs.Limits.{Limited, Joins}
+use Rattle.parse_laws.specs.Loops.{done, last, RowState, ListItems}
 use Rattle.parse_laws.proofs.Steps.{wider_law}
-use Rattle.parse_laws.proofs.Lists.{FitEach, Within, Rest, Whole, up, down, FitRow, rest_shrinks, rest_law, rest_apart}
+use Rattle.parse_laws.proofs.Lists.{FitEach, Rest, rest_shrinks, rest_law, rest_apart}
 use Rattle.parse_laws.proofs.Limits.{same_law, open_limited, close_limited, end_limited, either_law, optional_law, join_law, made_limited}
 use Rattle.parse_laws.proofs.Repeats.{at_head}
 use Rattle.grammar_rules.specs.declared.level.Junction.TheVariants as junction
 use Rattle.grammar_rules.specs.Expressions as g
 use Rattle.grammar_rules.specs.Expressions.{IsExpr, IsJoined, IsRow, IsNames, IsFilter, loop_names}
-use Rattle.grammar_rules.specs.Words.{op_in, keyword_in, name_in, named_by, is_spelled, is_op, is_keyword, is_comma, node_at}
+use Rattle.grammar_rules.specs.Words.{op_in, keyword_in, name_in, named_by, is_spelled, is_comma, node_at}
 use Rattle.parse_expressions.specs.declared.form.Form.{Form}
 use Rattle.parse_expressions.specs.declared.form.Form.TheVariants as form
 use Rattle.parse_expressions.specs.Forms.{Low, carried_by, opened_by, begins, carries}
 use Rattle.parse_expressions.specs.Reading as reading
 use Rattle.parse_expressions.specs.Reading.{is_square, is_square_close, is_for, is_in, is_if, any_number}
-use Rattle.parse_expressions.proofs.Tokens.{carries_looser, op_kind, keyword_kind, not_op, not_keyword}
+use Rattle.parse_expressions.proofs.Tokens.{or_first, or_none, carries_looser, op_kind, keyword_kind, not_op}
 use Rattle.parse_expressions.proofs.Opens.{x_token, x_tree, op_token, keyword_token, opens}
 use Rattle.parse_expressions.proofs.Least.{least}
 use Rattle.parse_expressions.proofs.Heights.{heights, height-List, height-Comprehension}
 use Rattle.parse_expressions.proofs.Lows.{positive, highest_up, highest_down, highest-append, loop_names_high, LowOption, x_low, optional_up, optional_down}
-use Rattle.parse_expressions.proofs.Leaves.{Free_of_limit, names_carry, names_law, grows_any}
-use Rattle.parse_expressions.proofs.Rows.{Reads, row_to, row_from, row_carries, row_given, ends_row}
+use Rattle.parse_expressions.proofs.Leaves.{Free_of_limit, names_carry, names_law}
+use Rattle.parse_expressions.proofs.Rows.{Reads, row_carries, row_given, ends_row}
 
 -- ---- what the grammar says, by its parts
 
@@ -49,13 +48,13 @@ filter_from : (a : List Token) (o : Option Expr) → Filtered a o → IsFilter a
 filter_from a o w =
     elim w as (λ _. IsFilter a o) [
       | inl k ↦
-        let A : List Token → Type 0 = λ z. IsFilter z o in
-        let X : Option Expr → Type 0 = λ z. IsFilter (k.0 ∷ k.1) z in
-        subst A (sym k.2) (subst X (sym k.4.2) (g.filtered k.0 k.1 k.4.0 k.3 k.4.1))
+          let A : List Token → Type 0 = λ z. IsFilter z o in
+          let X : Option Expr → Type 0 = λ z. IsFilter (k.0 ∷ k.1) z in
+          subst A (sym k.2) (subst X (sym k.4.2) (g.filtered k.0 k.1 k.4.0 k.3 k.4.1))
       | inr k ↦
-        let A : List Token → Type 0 = λ z. IsFilter z o in
-        let X : Option Expr → Type 0 = λ z. IsFilter [] z in
-        subst A (sym k.0) (subst X (sym k.1) g.unfiltered)
+          let A : List Token → Type 0 = λ z. IsFilter z o in
+          let X : Option Expr → Type 0 = λ z. IsFilter [] z in
+          subst A (sym k.0) (subst X (sym k.1) g.unfiltered)
     ]
 
 abbrev pub Condition : Token → Expr → LoopNames → Expr → Language Token Expr
@@ -80,14 +79,6 @@ AfterItem t x = Either (Comprehended t x) (Listing t x)
 
 abbrev pub Inside : Token → Language Token Expr
 Inside t = Either (Ends is_square_close (e.List (node_at t) [])) (Then IsExpr (AfterItem t))
-
-or_first : (x y : Bool) → x ≡ true → x || y ≡ true
-or_first true y h = refl
-or_first false y h = absurd (cc)
-
-or_none : (x y : Bool) → x || y ≡ false → y ≡ false
-or_none true y h = absurd (cc)
-or_none false y h = h
 
 abbrev x_name : Name
 x_name = record { node = node_at x_token; spelling = codes "x" }
@@ -151,10 +142,10 @@ module _ (room : ℕ) where
         (λ a w s k. ap (λ z. sees is_if (z ++ s)) k.2 ∙ k.3) if_carries
         (expect is_if >>= λ _. sub (form.Joined junction.Or) >>= λ x. pure (Some x)) ts
         (λ h. open_limited is_if (λ _. Made (IsJoined junction.Or) (λ x. Some x)) (LowOption room) (carries 12)
-            (λ t i. (x_token ∷ [], Some x_tree, ((x_tree, least (form.Joined junction.Or), refl), x_low room some)))
-            ts (λ _. sub (form.Joined junction.Or) >>= λ x. pure (Some x))
-            (λ t r i e. made_limited (IsJoined junction.Or) (carries 12) (λ x. Some x) (Low room) (LowOption room)
-                (record { grows = λ x f. f; shrinks = λ x f. f }) r (sub (form.Joined junction.Or) r) (wide r))))
+        (λ t i. (x_token ∷ [], Some x_tree, ((x_tree, least (form.Joined junction.Or), refl), x_low room some)))
+        ts (λ _. sub (form.Joined junction.Or) >>= λ x. pure (Some x))
+        (λ t r i e. made_limited (IsJoined junction.Or) (carries 12) (λ x. Some x) (Low room) (LowOption room)
+        (record { grows = λ x f. f; shrinks = λ x f. f }) r (sub (form.Joined junction.Or) r) (wide r))))
 
     condition_law : (t : Token) (x : Expr) (ns : LoopNames) (y : Expr) → Low room x → Low room y → (cont : Token → Bool) (ts : List Token)
         → Law (Condition t x ns y) (Limited (Condition t x ns y) (Low (suc room))) cont ts (and_then (reading.filter room sub ts) (λ z. expect is_square_close >> pure (e.Comprehension (node_at t) x ns y z)))
@@ -178,30 +169,43 @@ module _ (room : ℕ) where
         ((expect is_in >>= λ _. sub (form.Joined junction.Or) >>= λ y. reading.filter room sub >>= λ z. expect is_square_close >> pure (e.Comprehension (node_at t) x ns y z)) ts)
     iterable_law t x ns f cont ts =
         open_limited is_in (λ _. Then (IsJoined junction.Or) (Condition t x ns)) (Low (suc room)) cont
-        (λ u i. (x_token ∷ op_token (codes "]") ∷ [], e.Comprehension (node_at t) x ns x_tree None, (record {
-            first = x_token ∷ [];
-            second = op_token (codes "]") ∷ [];
-            value = x_tree;
-            joined = refl;
-            heads = least (form.Joined junction.Or);
-            tails = condition_least t x ns x_tree;
-          }, compr_low t x ns x_tree None f (x_low room (let p = positive x in omega arith)) tt)))
+        (λ u i. (
+          x_token ∷ op_token (codes "]") ∷ [],
+          e.Comprehension (node_at t) x ns x_tree None,
+          (
+            record {
+              first = x_token ∷ [];
+              second = op_token (codes "]") ∷ [];
+              value = x_tree;
+              joined = refl;
+              heads = least (form.Joined junction.Or);
+              tails = condition_least t x ns x_tree;
+            },
+            compr_low t x ns x_tree None f (x_low room (let p = positive x in omega arith)) tt,
+          ),
+        ))
         ts (λ _. sub (form.Joined junction.Or) >>= λ y. reading.filter room sub >>= λ z. expect is_square_close >> pure (e.Comprehension (node_at t) x ns y z))
         (λ u r i k. join_law (IsJoined junction.Or) (carries 11) (Condition t x ns) cont (Low room) (Low (suc room)) (iterable_joins t x ns f cont)
-            r (sub (form.Joined junction.Or) r) (below (form.Joined junction.Or) r)
-            (λ y. reading.filter room sub >>= λ z. expect is_square_close >> pure (e.Comprehension (node_at t) x ns y z))
-            (λ used y q p j m. condition_law t x ns y f j cont q))
+        r (sub (form.Joined junction.Or) r) (below (form.Joined junction.Or) r)
+        (λ y. reading.filter room sub >>= λ z. expect is_square_close >> pure (e.Comprehension (node_at t) x ns y z))
+        (λ used y q p j m. condition_law t x ns y f j cont q))
 
     iterable_least : (t : Token) (x : Expr) (ns : LoopNames)
         → Iterable t x ns (keyword_token (codes "in") ∷ x_token ∷ op_token (codes "]") ∷ []) (e.Comprehension (node_at t) x ns x_tree None)
-    iterable_least t x ns = (keyword_token (codes "in"), x_token ∷ op_token (codes "]") ∷ [], refl, refl, record {
-      first = x_token ∷ [];
-      second = op_token (codes "]") ∷ [];
-      value = x_tree;
-      joined = refl;
-      heads = least (form.Joined junction.Or);
-      tails = condition_least t x ns x_tree;
-    })
+    iterable_least t x ns = (
+      keyword_token (codes "in"),
+      x_token ∷ op_token (codes "]") ∷ [],
+      refl,
+      refl,
+      record {
+        first = x_token ∷ [];
+        second = op_token (codes "]") ∷ [];
+        value = x_tree;
+        joined = refl;
+        heads = least (form.Joined junction.Or);
+        tails = condition_least t x ns x_tree;
+      },
+    )
 
     names_least : IsNames (x_token ∷ []) (loop_names (x_name ∷ [], false))
     names_least = ((x_name ∷ [], false), last (x_token ∷ []) x_name (x_token, refl, refl), refl)
@@ -213,8 +217,11 @@ module _ (room : ℕ) where
     names_joins t x f cont = record {
       apart = λ a ns p c w s q free. ap (λ z. sees names_carry (z ++ s)) q.2 ∙ in_ends_names q.0 q.3;
       ends = λ a ns p. (keyword_token (codes "in") ∷ x_token ∷ op_token (codes "]") ∷ [], e.Comprehension (node_at t) x ns x_tree None, iterable_least t x ns);
-      ends_within = λ a ns p i. (keyword_token (codes "in") ∷ x_token ∷ op_token (codes "]") ∷ [], e.Comprehension (node_at t) x ns x_tree None,
-          (iterable_least t x ns, compr_low t x ns x_tree None f (x_low room (let p = positive x in omega arith)) tt));
+      ends_within = λ a ns p i. (
+        keyword_token (codes "in") ∷ x_token ∷ op_token (codes "]") ∷ [],
+        e.Comprehension (node_at t) x ns x_tree None,
+        (iterable_least t x ns, compr_low t x ns x_tree None f (x_low room (let p = positive x in omega arith)) tt),
+      );
       shrinks = λ a ns p c w q i. tt;
     }
 
@@ -234,12 +241,15 @@ module _ (room : ℕ) where
     unfolding reading.comprehension
     comprehension_law t x f cont ts =
         open_limited is_for (λ _. Then IsNames (Iterable t x)) (Low (suc room)) cont
-        (λ u i. (x_token ∷ keyword_token (codes "in") ∷ x_token ∷ op_token (codes "]") ∷ [], e.Comprehension (node_at t) x (loop_names (x_name ∷ [], false)) x_tree None,
-            (compr_least t x, compr_low t x (loop_names (x_name ∷ [], false)) x_tree None f (x_low room (let p = positive x in omega arith)) tt)))
+        (λ u i. (
+          x_token ∷ keyword_token (codes "in") ∷ x_token ∷ op_token (codes "]") ∷ [],
+          e.Comprehension (node_at t) x (loop_names (x_name ∷ [], false)) x_tree None,
+          (compr_least t x, compr_low t x (loop_names (x_name ∷ [], false)) x_tree None f (x_low room (let p = positive x in omega arith)) tt),
+        ))
         ts (λ _. reading.names >>= λ ns. expect is_in >>= λ _. sub (form.Joined junction.Or) >>= λ y. reading.filter room sub >>= λ z. expect is_square_close >> pure (e.Comprehension (node_at t) x ns y z))
         (λ u r i k. join_law IsNames names_carry (Iterable t x) cont Free_of_limit (Low (suc room)) (names_joins t x f cont) r (reading.names r) (names_law r)
-            (λ ns. expect is_in >>= λ _. sub (form.Joined junction.Or) >>= λ y. reading.filter room sub >>= λ z. expect is_square_close >> pure (e.Comprehension (node_at t) x ns y z))
-            (λ used ns q p j m. iterable_law t x ns f cont q))
+        (λ ns. expect is_in >>= λ _. sub (form.Joined junction.Or) >>= λ y. reading.filter room sub >>= λ z. expect is_square_close >> pure (e.Comprehension (node_at t) x ns y z))
+        (λ used ns q p j m. iterable_law t x ns f cont q))
 
     items_law : (t : Token) (x : Expr) → Low room x → (cont : Token → Bool) (ts : List Token) → Law (Listing t x) (Limited (Listing t x) (Low (suc room))) cont ts (reading.items room sub t x ts)
     unfolding reading.items
@@ -300,17 +310,17 @@ module _ (room : ℕ) where
         either_law (Ends is_square_close (e.List (node_at t) [])) (Then IsExpr (AfterItem t)) (Low (suc room)) cont is_square_close
         (λ a v s k. ap (λ z. sees is_square_close (z ++ s)) k.1 ∙ k.2)
         (λ a v s k free. ap (λ z. sees is_square_close (z ++ s)) k.joined ∙ ap (sees is_square_close) (append_assoc k.first k.second s)
-            ∙ at_head (begins 3) is_square_close false (λ u h. not_op (λ z. nat_le (opened_by z) 3) (codes "]") refl u h) (k.first ++ (k.second ++ s)) (opens form.Whole k.first k.value k.heads (k.second ++ s)))
+        ∙ at_head (begins 3) is_square_close false (λ u h. not_op (λ z. nat_le (opened_by z) 3) (codes "]") refl u h) (k.first ++ (k.second ++ s)) (opens form.Whole k.first k.value k.heads (k.second ++ s)))
         (expect is_square_close >>= λ _. pure (e.List (node_at t) [])) (sub form.Whole >>= λ x. choose is_for (reading.comprehension room sub t x) (reading.items room sub t x)) ts
         (λ h. end_limited is_square_close (e.List (node_at t) []) (Low (suc room)) (list_low (node_at t) [] tt) cont ts)
         (λ h. join_law IsExpr (carries 12) (AfterItem t) cont (Low room) (Low (suc room))
-            (record {
-              apart = λ a x p c w s q free. after_apart t x c w s q;
-              ends = λ a x p. (op_token (codes "]") ∷ [], e.List (node_at t) (x ∷ []), inr (listing_least t x));
-              ends_within = λ a x p f. (op_token (codes "]") ∷ [], e.List (node_at t) (x ∷ []), (inr (listing_least t x), list_low (node_at t) (x ∷ []) (f, tt)));
-              shrinks = λ a x p c w q f. after_shrinks t x c w q f;
-            }) ts (sub form.Whole ts) (below form.Whole ts) (λ x. choose is_for (reading.comprehension room sub t x) (reading.items room sub t x))
-            (λ used x r p f q. after_law t x f cont r))
+        (record {
+          apart = λ a x p c w s q free. after_apart t x c w s q;
+          ends = λ a x p. (op_token (codes "]") ∷ [], e.List (node_at t) (x ∷ []), inr (listing_least t x));
+          ends_within = λ a x p f. (op_token (codes "]") ∷ [], e.List (node_at t) (x ∷ []), (inr (listing_least t x), list_low (node_at t) (x ∷ []) (f, tt)));
+          shrinks = λ a x p c w q f. after_shrinks t x c w q f;
+        }) ts (sub form.Whole ts) (below form.Whole ts) (λ x. choose is_for (reading.comprehension room sub t x) (reading.items room sub t x))
+        (λ used x r p f q. after_law t x f cont r))
 
     pub square_law : (cont : Token → Bool) (ts : List Token) → Law (Opens is_square Inside) (Limited (Opens is_square Inside) (Low (suc room))) cont ts (reading.square room sub ts)
     unfolding reading.square

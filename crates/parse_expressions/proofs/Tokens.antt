@@ -1,5 +1,5 @@
 -- A test that a token passes tells its kind, and the kind tells what every other test says.
-use Rattle.std.proofs.Common.{◌≡◌, ℕ, ℤ, ◌≤◌, nat_le, arith, Bool, true, false, ◌&&◌, cond, List, [], ◌∷◌, refl, sym, ◌∙◌, ap, Option, Some, None, codes}
+use Rattle.std.proofs.Common.{◌≡◌, ℕ, ℤ, ◌≤◌, nat_le, arith, Bool, true, false, ◌&&◌, ◌||◌, cond, List, [], ◌∷◌, refl, sym, ◌∙◌, ap, Some, codes}
 use Rattle.std.specs.Str.{bytes_eq}
 use Rattle.std.proofs.lemmas.Slice.Eq.{bytes_eq-Decides}
 use Rattle.std.proofs.lemmas.Bool.{le-leb, leb-true}
@@ -31,11 +31,23 @@ abbrev pub all_pass : {O : Type 0} → (List ℕ → Bool) → List (List ℕ ×
 all_pass test [] = true
 all_pass test (row ∷ table) = test row.0 && all_pass test table
 
-and_first : (x y : Bool) → x && y ≡ true → x ≡ true
+pub or_first : (x y : Bool) → x ≡ true → x || y ≡ true
+or_first true y h = refl
+or_first false y h = absurd (cc)
+
+pub or_second : (x y : Bool) → y ≡ true → x || y ≡ true
+or_second true y h = refl
+or_second false y h = h
+
+pub or_none : (x y : Bool) → x || y ≡ false → y ≡ false
+or_none true y h = absurd (cc)
+or_none false y h = h
+
+pub and_first : (x y : Bool) → x && y ≡ true → x ≡ true
 and_first true y h = refl
 and_first false y h = absurd (cc)
 
-and_second : (x y : Bool) → x && y ≡ true → y ≡ true
+pub and_second : (x y : Bool) → x && y ≡ true → y ≡ true
 and_second true y h = h
 and_second false y h = absurd (cc)
 

@@ -18,16 +18,16 @@ use Rattle.source_trees.specs.declared.operator.UnaryOp.{UnaryOp}
 use Rattle.source_trees.specs.declared.statement.LoopNames.{LoopNames}
 use Rattle.source_trees.specs.Heights.{height_of_expr}
 use Rattle.parse_laws.specs.declared.cause.Cause.TheVariants.{TooDeep}
-use Rattle.parse_laws.specs.Parser.{Parser, Stopped, pure, refuse, choose, within, expect, take_by, has, in_table, turn, repeat, sort, ◌>>=◌, ◌>>◌}
+use Rattle.parse_laws.specs.Parser.{Parser, Stopped, pure, refuse, choose, within, expect, take_by, has, turn, repeat, sort, ◌>>=◌, ◌>>◌}
 use Rattle.parse_laws.specs.Limits.{bracket}
-use Rattle.parse_laws.specs.Loops.{RowState, rest_of, listed}
+use Rattle.parse_laws.specs.Loops.{rest_of, listed}
 use Rattle.grammar_rules.specs.declared.level.Junction.{Junction}
 use Rattle.grammar_rules.specs.declared.level.Junction.TheVariants as junction
 use Rattle.grammar_rules.specs.declared.level.Rank.{Rank}
 use Rattle.grammar_rules.specs.declared.level.Rank.TheVariants as rank
 use Rattle.grammar_rules.specs.Expressions.{node_of, loop_names}
 use Rattle.grammar_rules.specs.Levels.{word_of, joined, operators, signs, comparators}
-use Rattle.grammar_rules.specs.Words.{is_op, is_keyword, is_comma, number_in, text_in, number_of, text_of, name_of, look_up, node_at, name_at, most_items}
+use Rattle.grammar_rules.specs.Words.{is_op, is_keyword, is_word, is_comma, text_of, name_of, look_up, node_at, name_at, most_items}
 use Rattle.parse_expressions.specs.declared.form.Form.{Form}
 use Rattle.parse_expressions.specs.declared.form.Form.TheVariants as form
 use Rattle.parse_expressions.specs.Forms.{opening, begins}
@@ -108,6 +108,10 @@ constant n spelling =
     if bytes_eq spelling (codes "True") then Some (e.True n) else if bytes_eq spelling (codes "False") then Some (e.False n)
     else if bytes_eq spelling (codes "None") then Some (e.None n) else None
 
+-- a name that is no `print`
+abbrev pub plain_at : Token → Option Name
+plain_at t = if is_word (codes "print") t then None else name_at t
+
 abbrev pub leaf_in : Node → TokenKind → Option Expr
 leaf_in n (kind.Number value) = Some (e.Number n value)
 leaf_in n (kind.Keyword spelling) = constant n spelling
@@ -135,13 +139,20 @@ sign_at t = sign_from (node_at t) (look_up signs t)
 
 -- ---- trees
 
+abbrev pub name_tree : Name → Expr
+name_tree name = e.Name name.node name.spelling
+
+abbrev pub call_tree : Name → List Expr → Expr
+call_tree name xs = e.Call name.node name xs
+
 abbrev pub operation : BinaryOp → Expr → Expr → Expr
 operation o left right = e.Binary (node_of left) o left right
 
 -- one expression in brackets, or a tuple where a comma stands
 abbrev pub round_tree : Token → List Expr × Bool → Expr
+round_tree t (xs, true) = e.Tuple (node_at t) Bracketed xs
 round_tree t (x ∷ [], false) = e.Bracketed (node_at t) x
-round_tree t (xs, more) = e.Tuple (node_at t) Bracketed xs
+round_tree t (xs, false) = e.Tuple (node_at t) Bracketed xs
 
 abbrev pub join_all : Junction → Expr × List Expr → Expr
 join_all j (x, []) = x
@@ -197,11 +208,8 @@ module _ (room : ℕ) (sub : Form → Parser Token Expr) where
   unfoldable pub arguments : Parser Token (List Expr)
   arguments = expect is_open >>= λ _. choose is_close (expect is_close >>= λ _. pure []) (row few >>= λ xs. expect is_close >> pure xs.0)
 
-  abbrev pub call_of : Name → List Expr → Expr
-  call_of name xs = e.Call name.node name xs
-
   unfoldable pub named_rest : Name → Parser Token Expr
-  named_rest name = choose is_open (within has_room (arguments >>= λ xs. pure (call_of name xs))) (pure (e.Name name.node name.spelling))
+  named_rest name = choose is_open (within has_room (arguments >>= λ xs. pure (call_tree name xs))) (pure (name_tree name))
 
   unfoldable pub round : Parser Token Expr
   round = within has_room (bracket is_open (row few) is_close round_tree)
@@ -221,7 +229,7 @@ module _ (room : ℕ) (sub : Form → Parser Token Expr) where
       (sub form.Whole >>= λ x. choose is_for (comprehension t x) (items t x))
 
   unfoldable pub atom_from : Start → Parser Token Expr
-  atom_from Named = take_by name_at >>= named_rest
+  atom_from Named = take_by plain_at >>= named_rest
   atom_from Leaf = take_by leaf_of
   atom_from Texts = texts
   atom_from Round = round

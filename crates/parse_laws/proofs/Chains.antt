@@ -1,6 +1,6 @@
 -- The law of a chain of operators.
-use Rattle.std.proofs.Common.{◌≡◌, ℕ, zero, suc, ◌+◌, ◌≤◌, Bool, true, false, cond, List, [], ◌∷◌, ◌++◌, length, refl, sym, ◌∙◌, ap, subst, Option, Some, None, arith}
-use Rattle.std.proofs.lemmas.List.{length-append}
+use Rattle.std.proofs.Common.{◌≡◌, ℕ, zero, suc, ◌+◌, ◌≤◌, Bool, true, false, cond, List, [], ◌∷◌, ◌++◌, length, refl, sym, ◌∙◌, ap, subst, Option, Some, None, append_assoc, arith}
+use Rattle.std.proofs.lemmas.List.{length-append, append-nil}
 use Rattle.parse_laws.specs.declared.cause.Cause.TheVariants.{TooDeep}
 use Rattle.parse_laws.specs.Parser.{Outcome, Parsed, Stopped, Parser, and_then, sees, pure, choose, within, take_by, in_table, has, turn, repeat, ◌>>=◌}
 use Rattle.parse_laws.specs.Language.{Language, Free, GoesOn, Law}
@@ -251,3 +251,13 @@ module _ {K : Type 0} where
       repeat_chain_law n v ts small k =
           let P : Outcome K A → Type 0 = λ z. Law (Tails v) (Within v) cont ts z in
           subst P (chain_is pick fits node operand n v ts) (chain_law n v ts small k)
+
+  -- one more operator and its right operand after others
+  pub chain_snoc : {A B O : Type 0} (pick : A → K → Option O) (node : O → A → B → A) (P : O → Language K B) (v : A) (c : List K) (u : A) → Chain pick node P v c u
+      → (t : K) (o : O) (b : List K) (y : B) → pick u t ≡ Some o → P o b y → Chain pick node P v (c ++ t ∷ b) (node o u y)
+  chain_snoc pick node P _ _ _ (stop v) t o b y h p =
+      let Q : List K → Type 0 = λ z. Chain pick node P v (t ∷ z) (node o v y) in
+      subst Q (append-nil b) (more t o v b y [] (node o v y) h p (stop (node o v y)))
+  chain_snoc pick node P _ _ _ (more u q v a x c w e p rest) t o b y h r =
+      let Q : List K → Type 0 = λ z. Chain pick node P v (u ∷ z) (node o w y) in
+      subst Q (sym (append_assoc a c (t ∷ b))) (more u q v a x (c ++ t ∷ b) (node o w y) e p (chain_snoc pick node P (node q v x) c w rest t o b y h r))

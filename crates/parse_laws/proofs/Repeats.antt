@@ -1,6 +1,6 @@
 -- The law of a loop whose turns begin with a token of their own.
 use Rattle.std.proofs.Common.{◌≡◌, ℕ, zero, suc, ◌+◌, ◌<◌, ◌≤◌, Bool, true, false, List, [], ◌∷◌, ◌++◌, length, refl, sym, ◌∙◌, ap, subst, append_assoc, arith}
-use Rattle.std.proofs.lemmas.List.{length-append}
+use Rattle.std.proofs.lemmas.List.{length-append, append-nil}
 use Rattle.parse_laws.specs.Parser.{Parsed, Parser, and_then, sees, repeat}
 use Rattle.parse_laws.specs.Language.{Language, Free, Law}
 use Rattle.parse_laws.specs.Forms.{Then, Link, Agrees}
@@ -131,3 +131,10 @@ module _ {K : Type 0} where
           choose_law (All v) (AllWithin v) cont (test v) ts _ _
           (λ h. widen (One v) (OneWithin v) (All v) (AllWithin v) cont (test v) true (one_agrees v) ts h _ (one_law v k n (λ u us. repeat_law n u us) ts small h))
           (λ h. stop_law v k ts h)
+
+  -- one more turn after others
+  pub turns_snoc : {A : Type 0} (Step : A → Language K A) (v : A) (c : List K) (u : A) → Turns Step v c u → (b : List K) (w : A) → Step u b w → Turns Step v (c ++ b) w
+  turns_snoc Step _ _ _ (done v) b w s = let P : List K → Type 0 = λ z. Turns Step v z w in subst P (append-nil b) (next v b w [] w s (done w))
+  turns_snoc Step _ _ _ (next v a x c u p rest) b w s =
+      let P : List K → Type 0 = λ z. Turns Step v z w in
+      subst P (sym (append_assoc a c b)) (next v a x (c ++ b) w p (turns_snoc Step x c u rest b w s))
