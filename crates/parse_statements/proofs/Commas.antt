@@ -103,6 +103,9 @@ module _ {K B : Type 0} (is_separator : K → Bool) (Item : Language K B) (allow
       ] in
       keeps y x c w rest (go u.1 p)
 
+  pub row_first : (y : B) (c : List K) (w : RowState (List B)) → Row is_separator ItemAfter add (y ∷ [], true) c w → (ys : List B) × (w.0 ≡ y ∷ ys)
+  row_first y c w turns = keeps y (y ∷ [], true) c w turns ([], refl)
+
   pub first_kept : {C : Type 0} (f : List B → C) (y : B) (c : List K) (w : C) → Following f y c w → (ys : List B) × (w ≡ f (y ∷ ys))
   first_kept f y c w g =
       let m = g.4 in

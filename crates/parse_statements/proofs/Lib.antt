@@ -5,3 +5,4 @@ pub mod Targets
 pub mod Heights
 pub mod States
 pub mod Heads
+pub mod Rows

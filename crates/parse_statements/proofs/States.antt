@@ -100,7 +100,7 @@ fine_snoc s y h = by_follow s y h (Fine (s ++ y ∷ [])) (λ k l. inl (value_sno
 
 -- ---- heights
 
-some_same : {A : Type 0} (x y : A) → Some x ≡ Some y → x ≡ y
+pub some_same : {A : Type 0} (x y : A) → Some x ≡ Some y → x ≡ y
 some_same x y h = cc
 
 pub targets_height : (s : List Expr) (ws : List Target) → targets_of s ≡ Some ws → highest (map height_of_target ws) ≡ highest (map height_of_expr s)
