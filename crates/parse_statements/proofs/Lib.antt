@@ -6,3 +6,4 @@ pub mod Heights
 pub mod States
 pub mod Heads
 pub mod Rows
+pub mod Prints

@@ -25,7 +25,7 @@ either_word w u v P h p q =
     ] in
     go (bytes_eq w u) refl h
 
-not_false : (x : Bool) → not x ≡ false → x ≡ true
+pub not_false : (x : Bool) → not x ≡ false → x ≡ true
 not_false true h = refl
 not_false false h = absurd (cc)
 
@@ -58,10 +58,10 @@ starts_own t h = starts_open t.kind h
 
 -- ---- simple statements
 
-one_word : (w u : List ℕ) (P : List ℕ → Type 0) → bytes_eq w u ≡ true → P u → P w
+pub one_word : (w u : List ℕ) (P : List ℕ → Type 0) → bytes_eq w u ≡ true → P u → P w
 one_word w u P h p = subst P (sym ((bytes_eq-Decides w u).0 h)) p
 
-not_true : (x : Bool) → not x ≡ true → x ≡ false
+pub not_true : (x : Bool) → not x ≡ true → x ≡ false
 not_true true h = absurd (cc)
 not_true false h = refl
 

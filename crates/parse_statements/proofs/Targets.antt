@@ -265,6 +265,19 @@ print_named_in _ h = absurd (cc)
 print_named : (t : Token) → is_word (codes "print") t ≡ true → name_of t ≡ Some (codes "print")
 print_named t h = print_named_in t.kind h
 
+named_postfix : (a : List Token) (x : Expr) (n : Node) (s : List ℕ) → IsPostfix a x → target_of x ≡ Some (target.Name n s) → (t : Token) × (a ≡ t ∷ []) × (name_of t ≡ Some s) × (n ≡ node_at t)
+named_postfix _ _ n s (g.atom a x p) h =
+    let k = atom_target a x (target.Name n s) p h in
+    let same : k.1 ≡ s = let q : target.Name n s ≡ target.Name (node_at k.0) k.1 = k.6 in cc in
+    let here : n ≡ node_at k.0 = let q : target.Name n s ≡ target.Name (node_at k.0) k.1 = k.6 in cc in
+    (k.0, k.2, k.3 ∙ ap (λ z. Some z) same, here)
+named_postfix _ _ n s (g.index a x t b y u p k q l) h =
+    let bad : target.Index (node_of x) x y ≡ target.Name n s = some_inj _ _ (sym (target_by _ _ (out_Index (node_of x) x y)) ∙ h) in absurd (cc)
+named_postfix _ _ n s (g.slice a x t b y c d z u p k q l r m) h = absurd (other _ _ (out_Slice _ _ _ _) refl (ap in_table h))
+named_postfix _ _ n s (g.field a x dot t s2 p k l) h =
+    let bad : target.Field (node_of x) x s2 ≡ target.Name n s = some_inj _ _ (sym (target_by _ _ (out_Field (node_of x) x s2)) ∙ h) in absurd (cc)
+named_postfix _ _ n s (g.method a x dot t s2 b xs p k l q) h = absurd (other _ _ (out_MethodCall _ _ _ _ _) refl (ap in_table h))
+
 -- ---- a target as an expression
 
 pub target_expr : (a : List Token) (w : Target) → IsTarget a w → (x : Expr) × (target_of x ≡ Some w) × (IsPointed a x ⊎ IsPrintName a x)
@@ -283,6 +296,17 @@ print_target a x w g h =
     let P : List Token → Type 0 = λ z. IsTarget z w in
     let Q : Target → Type 0 = λ z. IsTarget (g.0 ∷ []) z in
     subst P (sym g.1) (subst Q (some_inj _ _ (sym (print_name_target a x g) ∙ h)) (name g.0 (codes "print") (print_named g.0 g.2)))
+
+-- an expression that is a name is one token
+pub named_expr : (a : List Token) (x : Expr) (n : Node) (s : List ℕ) → IsExpr a x → target_of x ≡ Some (target.Name n s) → (t : Token) × (a ≡ t ∷ []) × (name_of t ≡ Some s) × (n ≡ node_at t)
+named_expr a x n s p h = named_postfix a x n s (expr_postfix a x p (ap in_table h)) h
+
+-- a name other than `print` is an expression
+pub name_expr : (t : Token) (s : List ℕ) → name_of t ≡ Some s → bytes_eq s (codes "print") ≡ false → IsExpr (t ∷ []) (e.Name (node_at t) s)
+name_expr t s h k = postfix_expr _ _ (g.atom _ _ (g.name t s h (word_of_name (codes "print") t s h ∙ k)))
+
+pub name_target : (n : Node) (s : List ℕ) → target_of (e.Name n s) ≡ Some (target.Name n s)
+name_target n s = target_by _ _ (out_Name n s)
 
 -- ---- heights
 

@@ -3,3 +3,4 @@ pub mod Readers
 pub mod Items
 pub mod Heads
 pub mod Forms
+pub mod Prints
