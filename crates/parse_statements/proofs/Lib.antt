@@ -7,3 +7,4 @@ pub mod States
 pub mod Heads
 pub mod Rows
 pub mod Prints
+pub mod Printed

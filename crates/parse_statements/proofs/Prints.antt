@@ -34,7 +34,7 @@ use Rattle.parse_expressions.specs.declared.form.Form.TheVariants as form
 use Rattle.parse_expressions.proofs.Heights.{height-Name}
 use Rattle.parse_expressions.proofs.Least.{least}
 use Rattle.parse_expressions.proofs.Lows.{highest_up, highest_down, highest-append, positive, x_low}
-use Rattle.parse_expressions.proofs.Opens.{x_token, x_tree, op_token}
+use Rattle.parse_expressions.proofs.Opens.{sample, x_token, x_tree, op_token}
 use Rattle.parse_expressions.proofs.Tokens.{op_kind, name_kind}
 use Rattle.parse_statements.specs.Targets.{target_of, is_pointed}
 use Rattle.parse_statements.specs.Readers.{Readers, Exact, starts_expr, expr_on, has_room}
@@ -68,7 +68,7 @@ LowPrinted n p = FitEach (Low n) p.values × LowOptions n p.options
 -- ---- names of options
 
 -- The four ways to set one more option.
-option_cases : (o : PrintOptions) (w : List ℕ) (f : Expr → PrintOptions) → option_after o w ≡ Some f → (P : PrintOptions → (Expr → PrintOptions) → List ℕ → Type 0)
+pub option_cases : (o : PrintOptions) (w : List ℕ) (f : Expr → PrintOptions) → option_after o w ≡ Some f → (P : PrintOptions → (Expr → PrintOptions) → List ℕ → Type 0)
     → P Neither (λ z. Sep z) (codes "sep") → P Neither (λ z. End z) (codes "end") → ((x : Expr) → P (Sep x) (λ z. SepEnd x z) (codes "end")) → ((x : Expr) → P (End x) (λ z. EndSep x z) (codes "sep"))
     → P o f w
 option_cases Neither w f h P a b c d =
@@ -127,7 +127,7 @@ neither_not_whole (SepEnd x y) h = absurd (cc)
 neither_not_whole (EndSep x y) h = absurd (cc)
 
 -- what sets an option, with its name
-set_named : (p : Printed) (t : Token) (b : List Token) (q : Printed) → SetTo p (option_at p.options t) b q
+pub set_named : (p : Printed) (t : Token) (b : List Token) (q : Printed) → SetTo p (option_at p.options t) b q
     → (w : List ℕ) × (f : Expr → PrintOptions) × (name_of t ≡ Some w) × (option_after p.options w ≡ Some f) × SetTo p (Some f) b q
 set_named p t b q g =
     let named : (w : List ℕ) → name_of t ≡ Some w → (m : Option (Expr → PrintOptions)) → option_after p.options w ≡ m → SetTo p m b q
@@ -250,8 +250,16 @@ equals_misses (t ∷ s) free =
     let go : (x : Bool) → is_equals t ≡ x → x ≡ false = elim [ true ↦ λ e. let k = equals_item t e in absurd (cc) | false ↦ λ e. refl ] in
     go (is_equals t) refl
 
-abbrev Step : Printed → Language Token Printed
+abbrev pub Step : Printed → Language Token Printed
 Step p = Opens is_comma (λ _. PrintItem p)
+
+abbrev pub Started : Language Token Printed
+Started = Then (PrintItem reading.nothing) (Turns Step)
+
+set_here : (p : Printed) (f : Expr → PrintOptions) (o : Option (Expr → PrintOptions)) → o ≡ Some f → SetTo p o (op_token (codes "=") ∷ x_token ∷ []) (with_options p (f x_tree))
+set_here p f o h =
+    let P : Option (Expr → PrintOptions) → Type 0 = λ z. SetTo p z (op_token (codes "=") ∷ x_token ∷ []) (with_options p (f x_tree)) in
+    subst P (sym h) (op_token (codes "="), x_token ∷ [], refl, refl, (x_tree, least form.Whole, refl))
 
 set_opens : (p : Printed) (o : Option (Expr → PrintOptions)) (a : List Token) (q : Printed) (s : List Token) → SetTo p o a q → sees is_equals (a ++ s) ≡ true
 set_opens p None a q s g = absurd g
@@ -347,3 +355,136 @@ module _ (r : Readers) (exact : Exact r) where
       ] in
       go (option_by p.options x) g
   tail_apart p x c q s (inr g) free = ap (λ z. sees expr_on (z ++ s)) g.0 ∙ wider_at expr_on print_item_on item_expr s free
+
+  joins : (n : ℕ) (p : Printed) → LowPrinted n p → Joins IsExpr expr_on (ItemTail p) print_item_on (Low n) (LowPrinted n)
+  joins n p low = record {
+    apart = λ a x g c q s h free. tail_apart p x c q s h free;
+    ends = λ a x g. ([], with_value p x, inr (refl, refl));
+    ends_within = λ a x g f. ([], with_value p x, (inr (refl, refl), (each_add n p.values x low.0 f, low.1)));
+    shrinks = λ a x g c q h f. tail_shrinks n p x c q h f;
+  }
+
+  at_keeps : (n : ℕ) (p : Printed) → LowPrinted n p → (t : Token) (f : Expr → PrintOptions) → option_at p.options t ≡ Some f → Keeps n f
+  at_keeps n p low t f h =
+      let go : (w : Option (List ℕ)) → option_of_name p.options w ≡ Some f → Keeps n f = elim [
+        | Some w ↦ λ k. option_keeps n p.options w f k low.1
+        | None ↦ λ k. absurd (cc)
+      ] in
+      go (name_of t) h
+
+  abbrev Any : (Expr → PrintOptions) → Type 0
+  Any f = Unit {0}
+
+  picked_joins : (n : ℕ) → 1 ≤ n → (p : Printed) → LowPrinted n p → Joins (Picks (option_at p.options)) never (λ f. SetTo p (Some f)) print_item_on Any (LowPrinted n)
+  picked_joins n some p low = record {
+    apart = λ a f g c q s h free. free_never (c ++ s);
+    ends = λ a f g. (op_token (codes "=") ∷ x_token ∷ [], with_options p (f x_tree), (op_token (codes "="), x_token ∷ [], refl, refl, (x_tree, least form.Whole, refl)));
+    ends_within = λ a f g l. (
+      op_token (codes "=") ∷ x_token ∷ [],
+      with_options p (f x_tree),
+      ((op_token (codes "="), x_token ∷ [], refl, refl, (x_tree, least form.Whole, refl)), (low.0, (at_keeps n p low g.0 f g.2 x_tree).0 (x_low n some))),
+    );
+    shrinks = λ a f g c q h l. tt;
+  }
+
+  pub item_law : (n : ℕ) (p : Printed) → LowPrinted n p → (takes_one p ≡ false → 1 ≤ n) → (ts : List Token)
+      → Law (PrintItem p) (Limited (PrintItem p) (LowPrinted n)) print_item_on ts (reading.print_item r n p ts)
+  unfolding reading.print_item
+  item_law n p low some ts =
+      let go : (x : Bool) → takes_one p ≡ x → Law (PrintItem p) (Limited (PrintItem p) (LowPrinted n)) print_item_on ts
+      (cond x (r.expr n >>= λ x. choose is_equals (reading.set_to r n p (option_by p.options x)) (pure (with_value p x))) (take_by (option_at p.options) >>= λ set. reading.set_to r n p (Some set)) ts) = elim [
+        | true ↦ λ h.
+            same_law (Then IsExpr (ItemTail p)) (PrintItem p) (LowPrinted n) print_item_on (open_up p h) (open_down p) ts _
+            (join_law IsExpr expr_on (ItemTail p) print_item_on (Low n) (LowPrinted n) (joins n p low) ts (r.expr n ts) (exact.expr_law n ts)
+            (λ x. choose is_equals (reading.set_to r n p (option_by p.options x)) (pure (with_value p x)))
+            (λ used x us g f e. tail_law n p low x f us))
+        | false ↦ λ h.
+            same_law (Then (Picks (option_at p.options)) (λ f. SetTo p (Some f))) (PrintItem p) (LowPrinted n) print_item_on (picked_up p) (picked_down p h) ts _
+            (join_law (Picks (option_at p.options)) never (λ f. SetTo p (Some f)) print_item_on Any (LowPrinted n) (picked_joins n (some h) p low) ts
+            (take_by (option_at p.options) ts) (take_limited (option_at p.options) Any (λ f. tt) never ts) (λ f. reading.set_to r n p (Some f))
+            (λ used f us g l e. set_law n (some h) p low (Some f)
+                (λ f2 k. let P : (Expr → PrintOptions) → Type 0 = λ z. Keeps n z in subst P (some_same _ _ k) (at_keeps n p low g.0 f g.2)) us))
+      ] in
+      go (takes_one p) refl
+
+  -- ---- items with commas
+
+  item_some : (n : ℕ) → 1 ≤ n → (p : Printed) → is_whole p.options ≡ false → LowPrinted n p → Viable (Limited (PrintItem p) (LowPrinted n)) []
+  item_some n some p h low =
+      let named : (w : List ℕ) (f : Expr → PrintOptions) → option_after p.options w ≡ Some f → Viable (Limited (PrintItem p) (LowPrinted n)) [] = λ w f k. (
+        sample (kind.Name w) ∷ op_token (codes "=") ∷ x_token ∷ [],
+        with_options p (f x_tree),
+        (inr (sample (kind.Name w), op_token (codes "=") ∷ x_token ∷ [], refl, set_here p f (option_of_name p.options (Some w)) k), (low.0, (option_keeps n p.options w f k low.1 x_tree).0 (x_low n some))),
+      ) in
+      let go : (o : PrintOptions) → p.options ≡ o → is_whole o ≡ false → Viable (Limited (PrintItem p) (LowPrinted n)) [] = elim [
+        | Neither ↦ λ e k. named (codes "sep") (λ z. Sep z) (ap (λ o. option_after o (codes "sep")) e)
+        | Sep x ↦ λ e k. named (codes "end") (λ z. SepEnd x z) (ap (λ o. option_after o (codes "end")) e)
+        | End x ↦ λ e k. named (codes "sep") (λ z. EndSep x z) (ap (λ o. option_after o (codes "sep")) e)
+        | SepEnd x y ↦ λ e k. absurd (cc)
+        | EndSep x y ↦ λ e k. absurd (cc)
+      ] in
+      go p.options refl h
+
+  abbrev goes_on : Printed → Token → Bool
+  goes_on p t = not (is_whole p.options) && is_comma t
+
+  item_goes : (p : Printed) (a : List Token) (q : Printed) → PrintItem p a q → is_whole p.options ≡ false
+  item_goes p a q (inl g) = neither_not_whole p.options (and_both (is_neither p.options) (has_room p.values) g.0).0
+  item_goes p a q (inr g) = let k = set_named p g.0 g.1 q g.3 in not_whole p.options k.0 k.1 k.3
+
+  sees_comma : (x : Bool) → x ≡ false → (ts : List Token) → sees is_comma ts ≡ true → sees (λ t. not x && is_comma t) ts ≡ true
+  sees_comma true e ts h = absurd (cc)
+  sees_comma false e [] h = absurd (cc)
+  sees_comma false e (t ∷ ts) h = h
+
+  goes_comma : (x : Bool) (t : Token) → not x && is_comma t ≡ true → is_comma t ≡ true
+  goes_comma true t h = absurd (cc)
+  goes_comma false t h = h
+
+  goes_false : (x : Bool) (ts : List Token) → sees (λ t. not x && is_comma t) ts ≡ true → x ≡ false
+  goes_false true [] h = absurd (cc)
+  goes_false true (t ∷ ts) h = absurd (cc)
+  goes_false false ts h = refl
+
+  repeated : (n : ℕ) → Repeated goes_on Step (λ p. print_item_on) printed_on (LowPrinted n)
+  repeated n = record {
+    opens = λ p b q s g. sees_comma (is_whole p.options) (item_goes p g.1 q g.4) (b ++ s) (ap (λ z. sees is_comma (z ++ s)) g.2 ∙ g.3);
+    own = λ p t h. comma_printed t (goes_comma (is_whole p.options) t h);
+    wider = λ p t h. printed_item t h;
+    next = λ p b q t g h. comma_item t (goes_comma (is_whole q.options) t h);
+    shrinks = λ p b q g f. (item_before n p g.1 q g.4 f).0;
+  }
+
+  more_law : (n : ℕ) → 1 ≤ n → (p : Printed) → LowPrinted n p → (ts : List Token) → Law (Turns Step p) (Limited (Turns Step p) (LowPrinted n)) printed_on ts (reading.more_printed r n p ts)
+  unfolding reading.more_printed
+  more_law n some p low ts =
+      repeat_law goes_on Step (λ p. print_item_on) printed_on (LowPrinted n) (repeated n) (λ q. expect is_comma >>= λ _. reading.print_item r n q)
+      (λ q f us h. open_limited is_comma (λ _. PrintItem q) (LowPrinted n) print_item_on (λ t i. item_some n some q (goes_false (is_whole q.options) us h) f) us (λ _. reading.print_item r n q)
+          (λ t vs i e. item_law n q f (λ k. some) vs))
+      (length ts) p ts (omega arith) low
+
+  turns_apart : (p : Printed) (c : List Token) (q : Printed) (s : List Token) → Turns Step p c q → Free printed_on s → Free print_item_on (c ++ s)
+  turns_apart _ _ _ s (done p) free = wider_at print_item_on printed_on printed_item s free
+  turns_apart _ _ _ s (next p b u c q g rest) free = ap (λ z. sees print_item_on ((z ++ c) ++ s)) g.2 ∙ comma_item g.0 g.3
+
+  turns_before : (n : ℕ) (p : Printed) (c : List Token) (q : Printed) → Turns Step p c q → LowPrinted n q → LowPrinted n p
+  turns_before n _ _ _ (done p) f = f
+  turns_before n _ _ _ (next p b u c q g rest) f = (item_before n p g.1 u g.4 (turns_before n u c q rest f)).0
+
+  started_law : (n : ℕ) (ts : List Token) → Law Started (Limited Started (LowPrinted n)) printed_on ts (and_then (reading.print_item r n reading.nothing ts) (reading.more_printed r n))
+  started_law n ts =
+      join_law (PrintItem reading.nothing) print_item_on (Turns Step) printed_on (LowPrinted n) (LowPrinted n)
+      (record {
+        apart = λ a p g c q s h free. turns_apart p c q s h free;
+        ends = λ a p g. ([], p, done p);
+        ends_within = λ a p g f. ([], p, (done p, f));
+        shrinks = λ a p g c q h f. turns_before n p c q h f;
+      }) ts (reading.print_item r n reading.nothing ts) (item_law n reading.nothing (tt, tt) (λ h. absurd (cc)) ts) (reading.more_printed r n)
+      (λ used p us g f e. more_law n (item_before n reading.nothing used p g f).1 p f us)
+
+  pub any_printed_law : (n : ℕ) (ts : List Token) → Law (Either Started (Is reading.nothing)) (Limited (Either Started (Is reading.nothing)) (LowPrinted n)) printed_on ts (reading.printed r n ts)
+  unfolding reading.printed
+  any_printed_law n ts =
+      optional_law Started reading.nothing (LowPrinted n) (tt, tt) printed_on starts_expr
+      (λ a q s g. ap (λ z. sees starts_expr (z ++ s)) g.joined ∙ ap (sees starts_expr) (append_assoc g.first g.second s) ∙ item_opens reading.nothing g.first g.value (g.second ++ s) g.heads)
+      starts_printed (λ us. and_then (reading.print_item r n reading.nothing us) (reading.more_printed r n)) ts (λ h. started_law n ts)
