@@ -8,3 +8,4 @@ pub mod Heads
 pub mod Rows
 pub mod Prints
 pub mod Printed
+pub mod Arguments

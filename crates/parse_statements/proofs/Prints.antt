@@ -213,23 +213,23 @@ item_expr_in : (k : TokenKind) → is_spelled (op_in k) (codes ",") || is_spelle
 item_expr_in (kind.Op w) h = either_word w (codes ",") (codes ")") (λ z. nat_le (carried_by (kind.Op z)) 12 ≡ false) h refl refl
 item_expr_in _ h = absurd (cc)
 
-item_expr : (t : Token) → print_item_on t ≡ false → expr_on t ≡ false
+pub item_expr : (t : Token) → print_item_on t ≡ false → expr_on t ≡ false
 item_expr t h = item_expr_in t.kind (not_false (print_end t) h)
 
 equals_item : (t : Token) → is_equals t ≡ true → print_item_on t ≡ true
 equals_item t h = ap (λ k. not (is_spelled (op_in k) (codes ",") || is_spelled (op_in k) (codes ")"))) (op_kind (codes "=") t h)
 
-comma_item : (t : Token) → is_comma t ≡ true → print_item_on t ≡ false
+pub comma_item : (t : Token) → is_comma t ≡ true → print_item_on t ≡ false
 comma_item t h = ap (λ z. not (z || is_bracket_end t)) h
 
 or_not_true : (x y : Bool) → not y ≡ false → not (x || y) ≡ false
 or_not_true true y h = refl
 or_not_true false y h = h
 
-printed_item : (t : Token) → printed_on t ≡ false → print_item_on t ≡ false
+pub printed_item : (t : Token) → printed_on t ≡ false → print_item_on t ≡ false
 printed_item t h = or_not_true (is_comma t) (is_bracket_end t) h
 
-comma_printed : (t : Token) → is_comma t ≡ true → printed_on t ≡ true
+pub comma_printed : (t : Token) → is_comma t ≡ true → printed_on t ≡ true
 comma_printed t h = ap (λ k. not (is_spelled (op_in k) (codes ")"))) (op_kind (codes ",") t h)
 
 starts_printed_in : (k : TokenKind) → nat_le (opened_by k) 3 ≡ true → not (is_spelled (op_in k) (codes ")")) ≡ true
@@ -241,7 +241,7 @@ starts_printed_in (kind.Op w) h =
     go (bytes_eq w (codes ")")) refl
 starts_printed_in _ h = refl
 
-starts_printed : (t : Token) → starts_expr t ≡ true → printed_on t ≡ true
+pub starts_printed : (t : Token) → starts_expr t ≡ true → printed_on t ≡ true
 starts_printed t h = starts_printed_in t.kind h
 
 equals_misses : (s : List Token) → Free print_item_on s → sees is_equals s ≡ false
@@ -275,7 +275,7 @@ module _ (r : Readers) (exact : Exact r) where
       let k = set_named p g.0 g.1 q g.3 in
       ap (λ z. sees starts_expr (z ++ s)) g.2 ∙ ap (λ z. nat_le (opened_by z) 3) (name_kind g.0 k.0 k.2) ∙ option_token p.options k.0 k.1 k.3
 
-  expr_here : (n : ℕ) (ts : List Token) → Law IsExpr (Limited IsExpr (Low n)) print_item_on ts (r.expr n ts)
+  pub expr_here : (n : ℕ) (ts : List Token) → Law IsExpr (Limited IsExpr (Low n)) print_item_on ts (r.expr n ts)
   expr_here n ts = wider_law IsExpr (Limited IsExpr (Low n)) expr_on print_item_on item_expr ts (r.expr n ts) (exact.expr_law n ts)
 
   set_law : (n : ℕ) → 1 ≤ n → (p : Printed) → LowPrinted n p → (o : Option (Expr → PrintOptions)) → ((f : Expr → PrintOptions) → o ≡ Some f → Keeps n f)

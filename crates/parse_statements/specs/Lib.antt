@@ -4,3 +4,4 @@ pub mod Items
 pub mod Heads
 pub mod Forms
 pub mod Prints
+pub mod Stages
