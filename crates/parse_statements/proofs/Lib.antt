@@ -1,4 +1,5 @@
 pub mod Commas
+pub mod Many
 pub mod Marks
 pub mod Items
 pub mod Targets
@@ -9,3 +10,4 @@ pub mod Rows
 pub mod Prints
 pub mod Printed
 pub mod Arguments
+pub mod Stages

@@ -5,3 +5,4 @@ pub mod Heads
 pub mod Forms
 pub mod Prints
 pub mod Stages
+pub mod Many

@@ -11,8 +11,9 @@ use Rattle.source_trees.specs.declared.pipeline.StageForm.TheVariants as form
 use Rattle.parse_laws.specs.Parser.{Parser, ◌>>=◌, ◌>>◌, pure, refuse, choose, expect, take_by, repeat, row_turn, has, sees}
 use Rattle.parse_laws.specs.Loops.{row_test}
 use Rattle.grammar_rules.specs.Simple.{joints}
-use Rattle.grammar_rules.specs.Words.{is_op, is_word, is_comma, name_of, look_up, node_at, most_items}
+use Rattle.grammar_rules.specs.Words.{is_op, is_word, is_comma, name_of, look_up, name_at, most_items}
 use Rattle.parse_statements.specs.Readers.{Readers, starts_expr}
+use Rattle.parse_statements.specs.Many.{many}
 use Rattle.parse_statements.specs.Prints as print
 use Rattle.parse_statements.specs.Prints.{is_bracket_end, printed_on}
 
@@ -81,3 +82,14 @@ module _ (r : Readers) where
   stage_after n spelling =
       if bytes_eq spelling (codes "print") then choose is_bracket (print_stage n) (pure (form.Print print.nothing))
       else choose is_bracket (call_stage n spelling) (pure (if bytes_eq spelling (codes "iter") then form.Iter else form.Call spelling [] []))
+
+  -- a stage with its operator
+  unfoldable pub stage : ℕ → Parser Token Stage
+  stage n = do
+    j ← take_by (look_up joints)
+    name ← take_by name_at
+    f ← stage_after n name.spelling
+    pure (record { node = name.node; joint = j; form = f })
+
+  unfoldable pub stages : ℕ → Parser Token (List Stage)
+  stages n = many (has (look_up joints)) (stage n)
