@@ -1,16 +1,16 @@
 -- The law of items one after the other.
 use Rattle.std.proofs.Common.{◌≡◌, ℕ, ◌+◌, ◌≤◌, Bool, true, false, List, [], ◌∷◌, ◌++◌, length, refl, sym, ◌∙◌, ap, subst, append_assoc, arith}
 use Rattle.std.proofs.lemmas.List.{append-nil}
-use Rattle.parse_laws.specs.Parser.{Parser, sees, pure, repeat, ◌>>=◌}
+use Rattle.parse_laws.specs.Parser.{Parser, and_then, sees, pure, repeat, ◌>>=◌}
 use Rattle.parse_laws.specs.Language.{Language, Free, Law}
 use Rattle.parse_laws.specs.Forms.{Then, Made}
 use Rattle.parse_laws.specs.Limits.{Limited}
 use Rattle.parse_laws.specs.Loops.{Turns, done, next, Repeated}
 use Rattle.parse_laws.proofs.Forms.{rename_law, wider_at}
-use Rattle.parse_laws.proofs.Limits.{same_law, made_limited}
+use Rattle.parse_laws.proofs.Limits.{same_law, join_law, made_limited}
 use Rattle.parse_laws.proofs.Lists.{FitEach}
 use Rattle.parse_laws.proofs.Repeats.{repeat_law}
-use Rattle.parse_statements.specs.Many.{Many, none, more, many}
+use Rattle.parse_statements.specs.Many.{Many, none, more, many, OneOrMore, one_or_more}
 
 -- What is asked of the items: each begins with a token that starts one, which `cont` has and which carries no item on.
 pub record Follows {K B : Type 0} (Item : Language K B) (starts contp cont : K → Bool) : Type 0 where
@@ -76,3 +76,23 @@ module _ {K B : Type 0} (Item : Language K B) (fit : B → Type 0) where
         (λ v f us h. let l = made_limited Item contp (λ y. v ++ y ∷ []) fit (FitEach fit)
             (record { grows = λ y g. added v y f g; shrinks = λ y g. (front v y g).1 }) us (item us) (item_law us h) in l)
         (length ts) [] ts (omega arith) tt)
+
+    -- one item or more; the first is read whatever begins it
+    pub one_or_more_law : (item : Parser K B) → ((ts : List K) → sees starts ts ≡ true → Law Item (Limited Item fit) contp ts (item ts))
+        → (ts : List K) → Law Item (Limited Item fit) contp ts (item ts) → Law (OneOrMore Item) (Limited (OneOrMore Item) (FitEach fit)) cont ts (one_or_more starts item ts)
+    unfolding one_or_more
+    one_or_more_law item item_law ts first =
+        join_law Item contp (λ y. Made (Many Item) (λ ys. y ∷ ys)) cont fit (FitEach fit)
+        (record {
+          apart = λ a y g c w s h free. many_apart c h.0 s h.1 free;
+          ends = λ a y g. ([], y ∷ [], ([], none, refl));
+          ends_within = λ a y g f. ([], y ∷ [], (([], none, refl), (f, tt)));
+          shrinks = λ a y g c w h f. let P : List B → Type 0 = λ z. FitEach fit z in (subst P h.2 f).0;
+        }) ts (item ts) first (λ y. many starts item >>= λ ys. pure (y ∷ ys))
+        (λ used y us g f e. made_limited (Many Item) cont (λ ys. y ∷ ys) (FitEach fit) (FitEach fit) (record { grows = λ ys k. (f, k); shrinks = λ ys k. k.1 }) us (many starts item us) (many_law item item_law us))
+
+pub many_append : {K B : Type 0} (Item : Language K B) (a : List K) (xs : List B) → Many Item a xs → (b : List K) (ys : List B) → Many Item b ys → Many Item (a ++ b) (xs ++ ys)
+many_append Item _ _ none b ys q = q
+many_append Item _ _ (more a y c xs p rest) b ys q =
+    let P : List _ → Type 0 = λ z. Many Item z (y ∷ (xs ++ ys)) in
+    subst P (sym (append_assoc a c b)) (more a y (c ++ b) (xs ++ ys) p (many_append Item c xs rest b ys q))

@@ -13,7 +13,7 @@ use Rattle.parse_laws.specs.Loops.{row_test}
 use Rattle.grammar_rules.specs.Simple.{joints}
 use Rattle.grammar_rules.specs.Words.{is_op, is_word, is_comma, name_of, look_up, name_at, most_items}
 use Rattle.parse_statements.specs.Readers.{Readers, starts_expr}
-use Rattle.parse_statements.specs.Many.{many}
+use Rattle.parse_statements.specs.Many.{one_or_more}
 use Rattle.parse_statements.specs.Prints as print
 use Rattle.parse_statements.specs.Prints.{is_bracket_end, printed_on}
 
@@ -92,4 +92,4 @@ module _ (r : Readers) where
     pure (record { node = name.node; joint = j; form = f })
 
   unfoldable pub stages : ℕ → Parser Token (List Stage)
-  stages n = many (has (look_up joints)) (stage n)
+  stages n = one_or_more (has (look_up joints)) (stage n)
