@@ -92,6 +92,10 @@ sure_law {A} fit cont false v f p ts yes_is no_is =
     let L : Language Token A = Nothing in
     subst P (sym (no_is refl)) (same_law L (Sure false v) fit cont (λ a w g. absurd g) (λ a w g. let k : false ≡ true = g.0 in absurd (cc)) ts (Stopped Unexpected ts) (nothing_law fit cont ts))
 
+abbrev pub LowTargets : ℕ → Option Targets → Type 0
+LowTargets n None = Unit {0}
+LowTargets n (Some t) = height_of_targets t < n
+
 module _ (r : Readers) (exact : Exact r) where
   pub print_law : (n : ℕ) → 1 ≤ n → (cont : Token → Bool) (ts : List Token) → Law IsPrintName (Limited IsPrintName (Low n)) cont ts (reading.print_name r ts)
   unfolding reading.print_name
@@ -225,10 +229,6 @@ module _ (r : Readers) (exact : Exact r) where
   -- the items within a statement
   pub value_law : (n : ℕ) (ts : List Token) → Law IsItems (Limited IsItems (Low n)) simple_on ts (items r n ts)
   value_law n ts = wider_law IsItems (Limited IsItems (Low n)) items_on simple_on simple_items ts (items r n ts) (items_law r exact n ts)
-
-  abbrev pub LowTargets : ℕ → Option Targets → Type 0
-  LowTargets n None = Unit {0}
-  LowTargets n (Some t) = height_of_targets t < n
 
   pub assign_law : (n : ℕ) → 2 ≤ n → (o : Option Targets) → LowTargets n o → (ts : List Token) → Law (AssignTo o) (Limited (AssignTo o) (LowStmt n)) simple_on ts (reading.assign r n o ts)
   unfolding reading.assign

@@ -11,3 +11,5 @@ pub mod Prints
 pub mod Printed
 pub mod Arguments
 pub mod Stages
+pub mod Tails
+pub mod Shapes

@@ -78,7 +78,7 @@ or_neither : (x y : Bool) → not x ≡ true → not y ≡ true → not (x || y)
 or_neither true y h k = absurd (cc)
 or_neither false y h k = k
 
-print_snoc : (s : List Expr) (y : Expr) → no_print s ≡ true → is_print y ≡ false → no_print (s ++ y ∷ []) ≡ true
+pub print_snoc : (s : List Expr) (y : Expr) → no_print s ≡ true → is_print y ≡ false → no_print (s ++ y ∷ []) ≡ true
 print_snoc [] y h k = ap (λ z. not (z || false)) k
 print_snoc (x ∷ s) y h k =
     let f = or_cases (is_print x) (list_any is_print s) h in

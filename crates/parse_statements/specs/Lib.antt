@@ -6,3 +6,4 @@ pub mod Forms
 pub mod Prints
 pub mod Stages
 pub mod Many
+pub mod Simple
