@@ -13,3 +13,4 @@ pub mod Arguments
 pub mod Stages
 pub mod Tails
 pub mod Shapes
+pub mod Leads

@@ -93,7 +93,7 @@ row_end_some n three x s f (inr h) ys y q =
     go (targets_of s) refl h
 
 -- without a limit: any statement that is high enough
-row_end_any : (x : Expr) (s : List Expr) → Fine s → (ys : List Expr) (y : Expr) → s ≡ y ∷ ys → Viable (RowEnd x s) []
+pub row_end_any : (x : Expr) (s : List Expr) → Fine s → (ys : List Expr) (y : Expr) → s ≡ y ∷ ys → Viable (RowEnd x s) []
 row_end_any x s f ys y q =
     let n = highest (map height_of_expr s) + 3 in
     let k = row_end_some n (omega arith) x s (highest_down (n - 2) s (omega arith)) f ys y q in
@@ -132,7 +132,7 @@ row_end_apart x s c w us (inl g) free =
 row_end_apart x s c w us (inr g) free = ap (λ z. sees row_on (z ++ us)) g.1 ∙ wider_at row_on simple_on simple_row us free
 
 -- the first item is lower than the statement by two
-row_tail_low : (n : ℕ) (x : Expr) (a : List Token) (w : Stmt) → RowTail x a w → LowStmt n w → height_of_expr x + 2 ≤ n
+pub row_tail_low : (n : ℕ) (x : Expr) (a : List Token) (w : Stmt) → RowTail x a w → LowStmt n w → height_of_expr x + 2 ≤ n
 row_tail_low n x a w g f =
     let k = g.4 in
     let d = row_first is_comma IsHead may_follow x k.first k.value k.heads in

@@ -209,7 +209,7 @@ items_headed _ _ (tuple a x xs p small) =
     (row_headed a x xs k.0 (grows_values [] (x ∷ xs) refl k.1 (omega arith)) [] (evaluated (e.Tuple (node_of x) Bare (x ∷ xs)))
     (inr (both_true (nat_le (length (x ∷ xs)) most_items) (no_print (x ∷ xs)) (le-leb (length (x ∷ xs)) most_items small) k.1, refl, refl)))
 
-named_head : (t : Token) (name : Name) → name_at t ≡ Some name → (x : Expr) × IsHead (t ∷ []) x × (target_of x ≡ Some (target.Name name.node name.spelling))
+pub named_head : (t : Token) (name : Name) → name_at t ≡ Some name → (x : Expr) × IsHead (t ∷ []) x × (target_of x ≡ Some (target.Name name.node name.spelling))
 named_head t m h =
     let k = name_spelling t m (name_of t) refl h in
     let l = target_head (t ∷ []) (target.Name (node_at t) k.0) (name t k.0 k.1) in

@@ -211,7 +211,7 @@ colon_first (Some (target.Field m x n)) a w s g = absurd g
 colon_first None a w s g = absurd g
 
 -- what follows is told by its first token
-way_first : (x : Expr) (c : Follow) (a : List Token) (w : Stmt) (s : List Token) → TailOf x c a w → Free simple_on s → class_of follow_of Over (a ++ s) ≡ c
+pub way_first : (x : Expr) (c : Follow) (a : List Token) (w : Stmt) (s : List Token) → TailOf x c a w → Free simple_on s → class_of follow_of Over (a ++ s) ≡ c
 way_first x Comma a w s g free = ap (λ z. class_of follow_of Over (z ++ s)) g.2 ∙ ap follow_in (op_kind (codes ",") g.0 g.3)
 way_first x Equals a w s g free =
     let go : (o : Option Targets) → AssignTo o a w → class_of follow_of Over (a ++ s) ≡ Equals = elim [
@@ -250,7 +250,7 @@ unfolding is_comma_class
 class_comma_in (kind.Op w) h = comma_word (bytes_eq w (codes ",")) (bytes_eq w (codes "=")) (bytes_eq w (codes ":")) (in_table (entry w updates)) (in_table (entry w joints)) h
 class_comma_in _ h = absurd (cc)
 
-class_comma : (ts : List Token) → class_of follow_of Over ts ≡ Comma → sees is_comma ts ≡ true
+pub class_comma : (ts : List Token) → class_of follow_of Over ts ≡ Comma → sees is_comma ts ≡ true
 unfolding is_comma_class
 class_comma [] h = let k : is_comma_class Over ≡ is_comma_class Comma = ap is_comma_class h in absurd (cc)
 class_comma (t ∷ ts) h = class_comma_in t.kind (ap is_comma_class h)

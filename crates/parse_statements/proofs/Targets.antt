@@ -246,6 +246,9 @@ expr_not_print a x p =
     ] in
     go (is_print x) refl
 
+pub name_print : (n : Node) → is_print (e.Name n (codes "print")) ≡ true
+name_print n = print_by _ _ (out_Name n (codes "print"))
+
 pub print_name_print : (a : List Token) (x : Expr) → IsPrintName a x → is_print x ≡ true
 print_name_print a x g = ap is_print g.3 ∙ print_by _ _ (out_Name _ _)
 
