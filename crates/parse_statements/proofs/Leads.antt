@@ -20,7 +20,7 @@ use Rattle.source_trees.specs.declared.statement.Target.{Target}
 use Rattle.source_trees.specs.declared.statement.Target.TheVariants as target
 use Rattle.source_trees.specs.declared.statement.Targets.{Targets}
 use Rattle.source_trees.specs.declared.statement.Targets.TheVariants as targets
-use Rattle.source_trees.specs.Heights.{highest, height_of_expr, height_of_target, height_of_stmt, over_parts}
+use Rattle.source_trees.specs.Heights.{highest, height_of_expr, height_of_target, height_of_printed, height_of_stmt, over_parts}
 use Rattle.source_trees.specs.Parts.{of_optional_expr}
 use Rattle.parse_laws.specs.Parser.{Outcome, Parsed, Stopped, Parser, and_then, sees, pure, refuse, choose, within, in_table, expect, take_by, has, class_of, ◌>>=◌, ◌>>◌}
 use Rattle.parse_laws.specs.Language.{Language, Free, Viable, Law}
@@ -58,7 +58,7 @@ use Rattle.parse_statements.specs.Simple.{Follow, Comma, Equals, Augmented, Pipe
 use Rattle.parse_statements.proofs.Heads.{least_items, value_law, assign_height, evaluated_height}
 use Rattle.parse_statements.proofs.Heights.{stmt_Pass, stmt_Break, stmt_Continue, stmt_Return, stmt_Yield, stmt_Raise, stmt_Assert, stmt_Update, stmt_Annotated, stmt_Pipeline, stmt_Print}
 use Rattle.parse_statements.proofs.Marks.{one_word, not_false, equals_expr, simple_expr, comma_ends, comma_simple, starts_row}
-use Rattle.parse_statements.proofs.Prints.{LowPrinted}
+use Rattle.parse_statements.proofs.Prints.{LowPrinted, starts_printed, printed_item, item_expr}
 use Rattle.parse_statements.proofs.Printed.{printed_law}
 use Rattle.parse_statements.proofs.Rows.{row_tail_low, row_end_any}
 use Rattle.parse_statements.proofs.Shapes.{Headed, headed_simple, assign_headed, items_headed, note_headed, named_head, target_head}
@@ -380,6 +380,9 @@ way_apart x Over a w s g free = ap (λ z. sees expr_on (z ++ s)) g.1 ∙ wider_a
 
 -- ---- the laws
 
+printed_expr : (t : Token) → printed_on t ≡ false → expr_on t ≡ false
+printed_expr t h = item_expr t (printed_item t h)
+
 starts_simple_in : (k : TokenKind) → nat_le (opened_by k) 3 ≡ true → not (ends_simple_in k) ≡ true
 starts_simple_in (kind.Op w) h =
     let go : (x : Bool) → bytes_eq w (codes ";") ≡ x → not x ≡ true = elim [
@@ -440,3 +443,221 @@ module _ (r : Readers) (exact : Exact r) where
           (λ t us i k. made_limited IsItems simple_on (λ x. stmt.Yield (node_at t) x) (Low (n - 1)) (LowStmt n)
               (record { grows = λ x f. let j = stmt_Yield over_parts (node_at t) x in let m = leb-true 2 n two in omega arith; shrinks = λ x f. let j = stmt_Yield over_parts (node_at t) x in omega arith })
               us (items r (n - 1) us) (value_law r exact (n - 1) us)))
+
+  -- ---- `raise`
+
+  raise_height : (t : Token) (m : Name) (x : Option Expr) → height_of_stmt (stmt.Raise (node_at t) m x) ≡ max 1 (highest (of_optional_expr over_parts x)) + 1
+  raise_height t m x = stmt_Raise over_parts (node_at t) m x
+
+  abbrev LowText : ℕ → Option Expr → Type 0
+  LowText n (Some x) = Low n x
+  LowText n None = Unit {0}
+
+  text_up : (n : ℕ) → 2 ≤ n → (t : Token) (m : Name) (x : Option Expr) → LowText (n - 1) x → LowStmt n (stmt.Raise (node_at t) m x)
+  text_up n two t m (Some x) f = let k = raise_height t m (Some x) in omega arith
+  text_up n two t m None f = let k = raise_height t m None in omega arith
+
+  text_down : (n : ℕ) (t : Token) (m : Name) (x : Option Expr) → LowStmt n (stmt.Raise (node_at t) m x) → LowText (n - 1) x
+  text_down n t m (Some x) f = let k = raise_height t m (Some x) in omega arith
+  text_down n t m None f = tt
+
+  starts_printed_here : (t : Token) → starts_expr t ≡ true → printed_on t ≡ true
+  starts_printed_here t h = starts_printed t h
+
+  text_law : (n : ℕ) → 2 ≤ n → (t : Token) (m : Name) (ts : List Token) → Law (FaultText t m) (Limited (FaultText t m) (LowStmt n)) simple_on ts (reading.fault_text r n t m ts)
+  unfolding reading.fault_text
+  text_law n two t m ts =
+      open_limited is_bracket (λ _. Closes (Either (Made IsExpr Some) (Is None)) is_bracket_end (λ x. stmt.Raise (node_at t) m x)) (LowStmt n) simple_on
+      (λ u h. (op_token (codes ")") ∷ [], stmt.Raise (node_at t) m None, (([], None, op_token (codes ")"), refl, inr (refl, refl), refl, refl), text_up n two t m None tt)))
+      ts (λ _. choose starts_expr (r.expr (n - 1) >>= λ x. pure (Some x)) (pure None) >>= λ x. expect is_bracket_end >> pure (stmt.Raise (node_at t) m x))
+      (λ u us h k. close_limited is_bracket_end (op_token (codes ")")) refl (Either (Made IsExpr Some) (Is None)) printed_on simple_on (λ v i. ap not i)
+      (λ x. stmt.Raise (node_at t) m x) (LowText (n - 1)) (LowStmt n) (record { grows = λ x f. text_up n two t m x f; shrinks = λ x f. text_down n t m x f }) us _
+      (optional_law (Made IsExpr Some) None (LowText (n - 1)) tt printed_on starts_expr (λ a w s i. exact.expr_starts a i.0 s i.1) starts_printed_here (r.expr (n - 1) >>= λ x. pure (Some x)) us
+      (λ i. made_limited IsExpr printed_on Some (Low (n - 1)) (LowText (n - 1)) (record { grows = λ x f. f; shrinks = λ x f. f }) us (r.expr (n - 1) us)
+      (wider_law IsExpr (Limited IsExpr (Low (n - 1))) expr_on printed_on printed_expr us (r.expr (n - 1) us) (exact.expr_law (n - 1) us)))))
+
+  bracket_simple : (t : Token) → is_bracket t ≡ true → simple_on t ≡ true
+  bracket_simple t h = ap (λ k. not (ends_simple_in k)) (op_kind (codes "(") t h)
+
+  abbrev Fault : Token → Name → Language Token Stmt
+  Fault t m = Either (FaultText t m) (Is (stmt.Raise (node_at t) m None))
+
+  fault_law : (n : ℕ) → 2 ≤ n → (t : Token) (m : Name) (ts : List Token)
+      → Law (Fault t m) (Limited (Fault t m) (LowStmt n)) simple_on ts (choose is_bracket (reading.fault_text r n t m) (pure (stmt.Raise (node_at t) m None)) ts)
+  fault_law n two t m ts =
+      optional_law (FaultText t m) (stmt.Raise (node_at t) m None) (LowStmt n) (text_up n two t m None tt) simple_on is_bracket
+      (λ a w s i. ap (λ z. sees is_bracket (z ++ s)) i.2 ∙ i.3) bracket_simple (reading.fault_text r n t m) ts (λ h. text_law n two t m ts)
+
+  abbrev Free1 : {A : Type 0} → A → Type 0
+  Free1 x = Unit {0}
+
+  named_law : (n : ℕ) → 2 ≤ n → (t : Token) (ts : List Token) → let L : Language Token Stmt = Then (Picks name_at) (Fault t) in Law L (Limited L (LowStmt n)) simple_on ts
+      (and_then (take_by name_at ts) (λ m. choose is_bracket (reading.fault_text r n t m) (pure (stmt.Raise (node_at t) m None))))
+  named_law n two t ts =
+      join_law (Picks name_at) never (Fault t) simple_on Free1 (LowStmt n)
+      (record {
+        apart = λ a m i c w s h free. free_never (c ++ s);
+        ends = λ a m i. ([], stmt.Raise (node_at t) m None, inr (refl, refl));
+        ends_within = λ a m i f. ([], stmt.Raise (node_at t) m None, (inr (refl, refl), text_up n two t m None tt));
+        shrinks = λ a m i c w h f. tt;
+      }) ts (take_by name_at ts) (take_limited name_at Free1 (λ o. tt) never ts) (λ m. choose is_bracket (reading.fault_text r n t m) (pure (stmt.Raise (node_at t) m None)))
+      (λ used m us i f e. fault_law n two t m us)
+
+  fault_high : (n : ℕ) (t : Token) (m : Name) (a : List Token) (w : Stmt) → Fault t m a w → LowStmt n w → 2 ≤ n
+  fault_high n t m a w (inl i) f =
+      let P : Stmt → Type 0 = λ z. LowStmt n z in
+      let k : LowStmt n (stmt.Raise (node_at t) m i.4.1) = subst P i.4.6 f in
+      let l = raise_height t m i.4.1 in
+      omega arith
+  fault_high n t m a w (inr i) f =
+      let P : Stmt → Type 0 = λ z. LowStmt n z in
+      let k : LowStmt n (stmt.Raise (node_at t) m None) = subst P i.1 f in
+      let l = raise_height t m None in
+      omega arith
+
+  abbrev x_name : Name
+  x_name = record { node = node_at x_token; spelling = codes "x" }
+
+  raise_law : (n : ℕ) (ts : List Token) → sees (is_keyword (codes "raise")) ts ≡ true
+      → Law (LeadOf Raise) (Limited (LeadOf Raise) (LowStmt n)) simple_on ts
+      (within (nat_le 2 n) (λ us. and_then (expect (is_keyword (codes "raise")) us)
+          (λ t. take_by name_at >>= λ m. choose is_bracket (reading.fault_text r n t m) (pure (stmt.Raise (node_at t) m None)))) ts)
+  raise_law n ts h =
+      let some : (t : Token) → Then (Picks name_at) (Fault t) (x_token ∷ []) (stmt.Raise (node_at t) x_name None) =
+      λ t. record { first = x_token ∷ []; second = []; value = x_name; joined = refl; heads = (x_token, refl, refl); tails = inr (refl, refl) } in
+      limit_law (LeadOf Raise) (LowStmt n) simple_on (is_keyword (codes "raise")) (nat_le 2 n)
+      (λ t i. (x_token ∷ [], stmt.Raise (node_at t) x_name None, (t, x_token ∷ [], refl, i, some t)))
+      (λ none a v s k f free i. let j = le-leb 2 n (fault_high n k.0 k.4.value k.4.second v k.4.tails f) in absurd (cc))
+      (λ us. and_then (expect (is_keyword (codes "raise")) us) (λ t. take_by name_at >>= λ m. choose is_bracket (reading.fault_text r n t m) (pure (stmt.Raise (node_at t) m None)))) ts h
+      (λ two. open_limited (is_keyword (codes "raise")) (λ t. Then (Picks name_at) (Fault t)) (LowStmt n) simple_on
+          (λ t i. (x_token ∷ [], stmt.Raise (node_at t) x_name None, (some t, text_up n (leb-true 2 n two) t x_name None tt)))
+          ts _ (λ t us i k. named_law n (leb-true 2 n two) t us))
+
+  -- ---- `assert`
+
+  assert_height : (t : Token) (x : Expr) (y : Option Expr) → height_of_stmt (stmt.Assert (node_at t) x y) ≡ max (height_of_expr x) (highest (of_optional_expr over_parts y)) + 1
+  assert_height t x y = stmt_Assert over_parts (node_at t) x y
+
+  message_law : (n : ℕ) → 2 ≤ n → (t : Token) (x : Expr) → height_of_expr x < n → (ts : List Token) → Law (Message t x) (Limited (Message t x) (LowStmt n)) simple_on ts (reading.message r n t x ts)
+  unfolding reading.message
+  message_law n two t x l ts =
+      optional_law (Opens is_comma (λ _. Made IsExpr (λ y. stmt.Assert (node_at t) x (Some y)))) (stmt.Assert (node_at t) x None) (LowStmt n) (let k = assert_height t x None in omega arith) simple_on is_comma
+      (λ a w s i. ap (λ z. sees is_comma (z ++ s)) i.2 ∙ i.3) comma_simple
+      (λ us. and_then (expect is_comma us) (λ _. r.expr (n - 1) >>= λ y. pure (stmt.Assert (node_at t) x (Some y)))) ts
+      (λ h. open_limited is_comma (λ _. Made IsExpr (λ y. stmt.Assert (node_at t) x (Some y))) (LowStmt n) simple_on
+          (λ u i. (x_token ∷ [], stmt.Assert (node_at t) x (Some x_tree), ((x_tree, least form.Whole, refl), let k = assert_height t x (Some x_tree) in let j = height-Name (node_at x_token) (codes "x") in omega arith)))
+          ts (λ _. r.expr (n - 1) >>= λ y. pure (stmt.Assert (node_at t) x (Some y)))
+          (λ u us i k. made_limited IsExpr simple_on (λ y. stmt.Assert (node_at t) x (Some y)) (Low (n - 1)) (LowStmt n)
+              (record { grows = λ y f. let j = assert_height t x (Some y) in omega arith; shrinks = λ y f. let j = assert_height t x (Some y) in omega arith })
+              us (r.expr (n - 1) us) (wider_law IsExpr (Limited IsExpr (Low (n - 1))) expr_on simple_on simple_expr us (r.expr (n - 1) us) (exact.expr_law (n - 1) us))))
+
+  message_apart : (t : Token) (x : Expr) (c : List Token) (w : Stmt) (s : List Token) → Message t x c w → Free simple_on s → Free expr_on (c ++ s)
+  message_apart t x c w s (inl i) free = ap (λ z. sees expr_on (z ++ s)) i.2 ∙ comma_ends i.0 i.3
+  message_apart t x c w s (inr i) free = ap (λ z. sees expr_on (z ++ s)) i.0 ∙ wider_at expr_on simple_on simple_expr s free
+
+  message_high : (n : ℕ) (t : Token) (x : Expr) (c : List Token) (w : Stmt) → Message t x c w → LowStmt n w → height_of_expr x < n
+  message_high n t x c w (inl i) f =
+      let P : Stmt → Type 0 = λ z. LowStmt n z in
+      let k : LowStmt n (stmt.Assert (node_at t) x (Some i.4.0)) = subst P i.4.2 f in
+      let l = assert_height t x (Some i.4.0) in
+      omega arith
+  message_high n t x c w (inr i) f =
+      let P : Stmt → Type 0 = λ z. LowStmt n z in
+      let k : LowStmt n (stmt.Assert (node_at t) x None) = subst P i.1 f in
+      let l = assert_height t x None in
+      omega arith
+
+  assert_law : (n : ℕ) (ts : List Token) → sees (is_keyword (codes "assert")) ts ≡ true
+      → Law (LeadOf Assert) (Limited (LeadOf Assert) (LowStmt n)) simple_on ts
+      (within (nat_le 2 n) (λ us. and_then (expect (is_keyword (codes "assert")) us) (λ t. r.expr (n - 1) >>= reading.message r n t)) ts)
+  assert_law n ts h =
+      let some : (t : Token) → Then IsExpr (Message t) (x_token ∷ []) (stmt.Assert (node_at t) x_tree None) =
+      λ t. record { first = x_token ∷ []; second = []; value = x_tree; joined = refl; heads = least form.Whole; tails = inr (refl, refl) } in
+      limit_law (LeadOf Assert) (LowStmt n) simple_on (is_keyword (codes "assert")) (nat_le 2 n)
+      (λ t i. (x_token ∷ [], stmt.Assert (node_at t) x_tree None, (t, x_token ∷ [], refl, i, some t)))
+      (λ none a v s k f free i. let q = message_high n k.0 k.4.value k.4.second v k.4.tails f in let m = positive k.4.value in let j = le-leb 2 n (omega arith) in absurd (cc))
+      (λ us. and_then (expect (is_keyword (codes "assert")) us) (λ t. r.expr (n - 1) >>= reading.message r n t)) ts h
+      (λ two. open_limited (is_keyword (codes "assert")) (λ t. Then IsExpr (Message t)) (LowStmt n) simple_on
+          (λ t i. (x_token ∷ [], stmt.Assert (node_at t) x_tree None, (some t, let k = assert_height t x_tree None in let j = height-Name (node_at x_token) (codes "x") in let q = leb-true 2 n two in omega arith)))
+          ts _
+          (λ t us i k. join_law IsExpr expr_on (Message t) simple_on (Low (n - 1)) (LowStmt n)
+              (record {
+                apart = λ a x p c w s q free. message_apart t x c w s q free;
+                ends = λ a x p. ([], stmt.Assert (node_at t) x None, inr (refl, refl));
+                ends_within = λ a x p f. ([], stmt.Assert (node_at t) x None, (inr (refl, refl), let j = assert_height t x None in let q = leb-true 2 n two in omega arith));
+                shrinks = λ a x p c w q f. let j = message_high n t x c w q f in omega arith;
+              }) us (r.expr (n - 1) us) (exact.expr_law (n - 1) us) (reading.message r n t)
+              (λ used x vs p f e. message_law n (leb-true 2 n two) t x (let q = leb-true 2 n two in omega arith) vs)))
+
+  -- ---- `print`
+
+  print_height : (t : Token) (p : Printed) → height_of_stmt (stmt.Print (node_at t) p) ≡ height_of_printed p + 1
+  print_height t p = stmt_Print over_parts (node_at t) p
+
+  call_law : (n : ℕ) → 1 ≤ n → (t : Token) (ts : List Token) → Law (PrintCall t) (Limited (PrintCall t) (LowStmt n)) simple_on ts (reading.print_call r n t ts)
+  unfolding reading.print_call
+  call_law n some t ts =
+      open_limited is_bracket (λ _. Closes IsPrinted is_bracket_end (λ p. stmt.Print (node_at t) p)) (LowStmt n) simple_on
+      (λ u h. (op_token (codes ")") ∷ [], stmt.Print (node_at t) print.nothing, (([], print.nothing, op_token (codes ")"), refl, g.nothing, refl, refl), let k = print_height t print.nothing in omega arith)))
+      ts (λ _. print.printed r (n - 1) >>= λ p. expect is_bracket_end >> pure (stmt.Print (node_at t) p))
+      (λ u us h k. close_limited is_bracket_end (op_token (codes ")")) refl IsPrinted printed_on simple_on (λ v i. ap not i) (λ p. stmt.Print (node_at t) p) (LowPrinted (n - 1)) (LowStmt n)
+      (record {
+        grows = λ p f. let i = print_height t p in let j = printed_low (n - 1) p f in omega arith;
+        shrinks = λ p f. let i = print_height t p in low_printed (n - 1) p (omega arith);
+      }) us (print.printed r (n - 1) us) (printed_law r exact (n - 1) us))
+
+  after_print_law : (n : ℕ) → 1 ≤ n → (t : Token) (ts : List Token)
+      → Law (Either (PrintCall t) (HeadTail (print_tree t))) (Limited (Either (PrintCall t) (HeadTail (print_tree t))) (LowStmt n)) simple_on ts (reading.after_print r n t ts)
+  unfolding reading.after_print
+  after_print_law n some t ts =
+      let x = print_tree t in
+      let low = height-Name (node_at t) (codes "print") in
+      either_law (PrintCall t) (HeadTail x) (LowStmt n) simple_on is_bracket (λ a w s i. ap (λ z. sees is_bracket (z ++ s)) i.2 ∙ i.3)
+      (λ a w s i free. goes_no_bracket (a ++ s) (tail_goes t a w s i free)) (reading.print_call r n t) (choose print_goes (within (nat_le 2 n) (reading.tail r n x)) refuse) ts
+      (λ h. call_law n some t ts)
+      (λ h. choose_law (HeadTail x) (Limited (HeadTail x) (LowStmt n)) simple_on print_goes ts _ _
+          (λ i. limit_law (HeadTail x) (LowStmt n) simple_on print_goes (nat_le 2 n) (λ u j. goes_viable t u (follow_of u) refl j)
+              (λ none a v s k f free j. let q = way_high n x k.0 a v k.1 f in let m = le-leb 2 n (omega arith) in absurd (cc))
+              (reading.tail r n x) ts i (λ two. tail_law r exact n (leb-true 2 n two) x (print_fine t) (let q = leb-true 2 n two in omega arith) ts))
+          (λ i. refuse_law (HeadTail x) (Limited (HeadTail x) (LowStmt n)) simple_on print_goes false (λ a v s k free j. let q = tail_goes t a v s k free in absurd (cc)) ts i))
+
+  print_lead_law : (n : ℕ) → 1 ≤ n → (ts : List Token) → Law (LeadOf Print) (Limited (LeadOf Print) (LowStmt n)) simple_on ts (and_then (expect is_print_word ts) (reading.after_print r n))
+  print_lead_law n some ts =
+      open_limited is_print_word (λ t. Either (PrintCall t) (HeadTail (print_tree t))) (LowStmt n) simple_on
+      (λ t h. (
+        op_token (codes "(") ∷ op_token (codes ")") ∷ [],
+        stmt.Print (node_at t) print.nothing,
+        (
+          inl (op_token (codes "("), op_token (codes ")") ∷ [], refl, refl, ([], print.nothing, op_token (codes ")"), refl, g.nothing, refl, refl)),
+          let k = print_height t print.nothing in omega arith,
+        ),
+      ))
+      ts (reading.after_print r n) (λ t us h k. after_print_law n some t us)
+
+  -- ---- an expression
+
+  value_fine : (a : List Token) (x : Expr) → IsExpr a x → Fine (x ∷ [])
+  value_fine a x p = inl (ap (λ z. not (z || false)) (expr_not_print a x p))
+
+  value_lead_law : (n : ℕ) → 1 ≤ n → (ts : List Token) → Law (LeadOf Value) (Limited (LeadOf Value) (LowStmt n)) simple_on ts (and_then (r.expr (n - 1) ts) (reading.tail r n))
+  value_lead_law n some ts =
+      join_law IsExpr expr_on HeadTail simple_on (Low (n - 1)) (LowStmt n)
+      (record {
+        apart = λ a x p c w s i free. way_apart x i.0 c w s i.1 free;
+        ends = λ a x p. ([], evaluated x, (Over, (ap not (expr_not_print a x p), refl, refl)));
+        ends_within = λ a x p f. ([], evaluated x, ((Over, (ap not (expr_not_print a x p), refl, refl)), let k = evaluated_height x in omega arith));
+        shrinks = λ a x p c w i f. let k = way_high n x i.0 c w i.1 f in omega arith;
+      }) ts (r.expr (n - 1) ts) (exact.expr_law (n - 1) ts) (reading.tail r n)
+      (λ used x us p f e. let k = positive x in tail_law r exact n (omega arith) x (value_fine used x p) (omega arith) us)
+
+  lead_law : (n : ℕ) → 1 ≤ n → (c : Lead) (ts : List Token) → class_of lead_of Value ts ≡ c → Law (LeadOf c) (Limited (LeadOf c) (LowStmt n)) simple_on ts (reading.lead r n c ts)
+  unfolding reading.lead
+  lead_law n some Pass ts h = word_law n (codes "pass") (λ t. stmt.Pass (node_at t)) (λ t. let k = stmt_Pass over_parts (node_at t) in omega arith) ts
+  lead_law n some Break ts h = word_law n (codes "break") (λ t. stmt.Break (node_at t)) (λ t. let k = stmt_Break over_parts (node_at t) in omega arith) ts
+  lead_law n some Continue ts h = word_law n (codes "continue") (λ t. stmt.Continue (node_at t)) (λ t. let k = stmt_Continue over_parts (node_at t) in omega arith) ts
+  lead_law n some Return ts h = return_law n some ts
+  lead_law n some Yield ts h = yield_law n ts (yield_here ts h)
+  lead_law n some Raise ts h = raise_law n ts (raise_here ts h)
+  lead_law n some Assert ts h = assert_law n ts (assert_here ts h)
+  lead_law n some Print ts h = print_lead_law n some ts
+  lead_law n some Value ts h = value_lead_law n some ts
