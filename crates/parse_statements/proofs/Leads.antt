@@ -650,7 +650,7 @@ module _ (r : Readers) (exact : Exact r) where
       }) ts (r.expr (n - 1) ts) (exact.expr_law (n - 1) ts) (reading.tail r n)
       (λ used x us p f e. let k = positive x in tail_law r exact n (omega arith) x (value_fine used x p) (omega arith) us)
 
-  lead_law : (n : ℕ) → 1 ≤ n → (c : Lead) (ts : List Token) → class_of lead_of Value ts ≡ c → Law (LeadOf c) (Limited (LeadOf c) (LowStmt n)) simple_on ts (reading.lead r n c ts)
+  pub lead_law : (n : ℕ) → 1 ≤ n → (c : Lead) (ts : List Token) → class_of lead_of Value ts ≡ c → Law (LeadOf c) (Limited (LeadOf c) (LowStmt n)) simple_on ts (reading.lead r n c ts)
   unfolding reading.lead
   lead_law n some Pass ts h = word_law n (codes "pass") (λ t. stmt.Pass (node_at t)) (λ t. let k = stmt_Pass over_parts (node_at t) in omega arith) ts
   lead_law n some Break ts h = word_law n (codes "break") (λ t. stmt.Break (node_at t)) (λ t. let k = stmt_Break over_parts (node_at t) in omega arith) ts

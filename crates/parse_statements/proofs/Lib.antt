@@ -14,3 +14,4 @@ pub mod Stages
 pub mod Tails
 pub mod Shapes
 pub mod Leads
+pub mod Simples
