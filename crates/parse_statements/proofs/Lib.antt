@@ -15,3 +15,4 @@ pub mod Tails
 pub mod Shapes
 pub mod Leads
 pub mod Simples
+pub mod Lines

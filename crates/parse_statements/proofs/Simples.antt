@@ -164,17 +164,17 @@ module _ (r : Readers) (exact : Exact r) where
       let here : is_print_word t ≡ true = ap is_print_word (sym same) ∙ h in
       by_class Print (t ∷ a) _ s (print_class t here) (t, a, refl, here, inl (o, c ++ d ∷ [], rest, k, (c, p, d, refl, q, l, refl)))
 
-  simple_lead : (a : List Token) (w : Stmt) (s : List Token) → IsSimple a w → Free simple_on s → LeadOf (class_of lead_of Value (a ++ s)) a w
-  simple_lead _ _ s (g.pass t h) free = by_class Pass (t ∷ []) _ s (ap lead_in (keyword_kind (codes "pass") t h)) (t, [], refl, h, (refl, refl))
-  simple_lead _ _ s (g.break t h) free = by_class Break (t ∷ []) _ s (ap lead_in (keyword_kind (codes "break") t h)) (t, [], refl, h, (refl, refl))
-  simple_lead _ _ s (g.continue t h) free = by_class Continue (t ∷ []) _ s (ap lead_in (keyword_kind (codes "continue") t h)) (t, [], refl, h, (refl, refl))
-  simple_lead _ _ s (g.return t h) free = by_class Return (t ∷ []) _ s (ap lead_in (keyword_kind (codes "return") t h)) (t, [], refl, h, inr (refl, refl))
-  simple_lead _ _ s (g.return_value t a x h p) free = by_class Return (t ∷ a) _ s (ap lead_in (keyword_kind (codes "return") t h)) (t, a, refl, h, inl (x, p, refl))
-  simple_lead _ _ s (g.yield t a x h p) free = by_class Yield (t ∷ a) _ s (ap lead_in (keyword_kind (codes "yield") t h)) (t, a, refl, h, (x, p, refl))
-  simple_lead _ _ s (g.raise t u m h k) free =
+  pub simple_lead : (a : List Token) (w : Stmt) (s : List Token) → IsSimple a w → LeadOf (class_of lead_of Value (a ++ s)) a w
+  simple_lead _ _ s (g.pass t h) = by_class Pass (t ∷ []) _ s (ap lead_in (keyword_kind (codes "pass") t h)) (t, [], refl, h, (refl, refl))
+  simple_lead _ _ s (g.break t h) = by_class Break (t ∷ []) _ s (ap lead_in (keyword_kind (codes "break") t h)) (t, [], refl, h, (refl, refl))
+  simple_lead _ _ s (g.continue t h) = by_class Continue (t ∷ []) _ s (ap lead_in (keyword_kind (codes "continue") t h)) (t, [], refl, h, (refl, refl))
+  simple_lead _ _ s (g.return t h) = by_class Return (t ∷ []) _ s (ap lead_in (keyword_kind (codes "return") t h)) (t, [], refl, h, inr (refl, refl))
+  simple_lead _ _ s (g.return_value t a x h p) = by_class Return (t ∷ a) _ s (ap lead_in (keyword_kind (codes "return") t h)) (t, a, refl, h, inl (x, p, refl))
+  simple_lead _ _ s (g.yield t a x h p) = by_class Yield (t ∷ a) _ s (ap lead_in (keyword_kind (codes "yield") t h)) (t, a, refl, h, (x, p, refl))
+  simple_lead _ _ s (g.raise t u m h k) =
       by_class Raise (t ∷ u ∷ []) _ s (ap lead_in (keyword_kind (codes "raise") t h))
       (t, u ∷ [], refl, h, record { first = u ∷ []; second = []; value = m; joined = refl; heads = (u, refl, k); tails = inr (refl, refl) })
-  simple_lead _ _ s (g.raise_called t u m o c h k i j) free =
+  simple_lead _ _ s (g.raise_called t u m o c h k i j) =
       by_class Raise (t ∷ u ∷ o ∷ c ∷ []) _ s (ap lead_in (keyword_kind (codes "raise") t h))
       (
         t,
@@ -183,7 +183,7 @@ module _ (r : Readers) (exact : Exact r) where
         h,
         record { first = u ∷ []; second = o ∷ c ∷ []; value = m; joined = refl; heads = (u, refl, k); tails = inl (o, c ∷ [], refl, i, ([], None, c, refl, inr (refl, refl), j, refl)) },
       )
-  simple_lead _ _ s (g.raise_text t u m o a x c h k i p j) free =
+  simple_lead _ _ s (g.raise_text t u m o a x c h k i p j) =
       by_class Raise (t ∷ u ∷ o ∷ (a ++ c ∷ [])) _ s (ap lead_in (keyword_kind (codes "raise") t h))
       (
         t,
@@ -199,19 +199,19 @@ module _ (r : Readers) (exact : Exact r) where
           tails = inl (o, a ++ c ∷ [], refl, i, (a, Some x, c, refl, inl (x, p, refl), j, refl));
         },
       )
-  simple_lead _ _ s (g.assert t a x h p) free =
+  simple_lead _ _ s (g.assert t a x h p) =
       by_class Assert (t ∷ a) _ s (ap lead_in (keyword_kind (codes "assert") t h))
       (t, a, refl, h, record { first = a; second = []; value = x; joined = sym (append-nil a); heads = p; tails = inr (refl, refl) })
-  simple_lead _ _ s (g.assert_text t a x c b y h p k q) free =
+  simple_lead _ _ s (g.assert_text t a x c b y h p k q) =
       by_class Assert (t ∷ (a ++ c ∷ b)) _ s (ap lead_in (keyword_kind (codes "assert") t h))
       (t, a ++ c ∷ b, refl, h, record { first = a; second = c ∷ b; value = x; joined = refl; heads = p; tails = inl (c, b, refl, k, (y, q, refl)) })
-  simple_lead _ _ s (g.annotated t m c a type h k p) free =
+  simple_lead _ _ s (g.annotated t m c a type h k p) =
       let P : List Token → Type 0 = λ z. Headed (t ∷ c ∷ z) (stmt.Annotated (node_at t) m type None) in
       headed_lead (t ∷ c ∷ a) _ s (subst P (append-nil a) (note_headed t m h c k a type p [] None (inr (refl, refl))))
-  simple_lead _ _ s (g.annotated_value t m c a type e b x h k p i q) free =
+  simple_lead _ _ s (g.annotated_value t m c a type e b x h k p i q) =
       headed_lead (t ∷ c ∷ (a ++ e ∷ b)) _ s (note_headed t m h c k a type p (e ∷ b) (Some x) (inl (e, b, refl, i, (x, q, refl))))
-  simple_lead _ _ s (g.assign a x e b y p h q) free = headed_lead (a ++ e ∷ b) _ s (assign_headed a x e b y p h q)
-  simple_lead _ _ s (g.update a x t o b y p h q) free =
+  simple_lead _ _ s (g.assign a x e b y p h q) = headed_lead (a ++ e ∷ b) _ s (assign_headed a x e b y p h q)
+  simple_lead _ _ s (g.update a x t o b y p h q) =
       let k = target_head a x p in
       let v = stmt.Update (node_of_target x) x o y in
       let P : Option _ → Type 0 = λ z. UpdateTo z (t ∷ b) v in
@@ -224,13 +224,13 @@ module _ (r : Readers) (exact : Exact r) where
         heads = k.1;
         tails = (Augmented, subst P (sym k.2) (record { first = t ∷ []; second = b; value = o; joined = refl; heads = (t, refl, h); tails = (y, q, refl) }));
       })
-  simple_lead _ _ s (g.pipeline a x b stages p q) free =
+  simple_lead _ _ s (g.pipeline a x b stages p q) =
       headed_lead (a ++ b) _ s (record { first = a; second = b; value = x; joined = refl; heads = inl p; tails = (Piped, (ap not (expr_not_print a x p), (stages, q, refl))) })
-  simple_lead _ _ s (g.print t a p q) free = print_lead t a p (t ∷ a) q refl s
-  simple_lead _ _ s (g.evaluate a x p) free = headed_lead a _ s (items_headed a x p)
+  simple_lead _ _ s (g.print t a p q) = print_lead t a p (t ∷ a) q refl s
+  simple_lead _ _ s (g.evaluate a x p) = headed_lead a _ s (items_headed a x p)
 
   pub simple_law : (n : ℕ) → 1 ≤ n → (ts : List Token) → Law IsSimple (Limited IsSimple (LowStmt n)) simple_on ts (reading.simple r n ts)
   unfolding reading.simple
   simple_law n some ts =
-      sort_limited lead_of Value IsSimple LeadOf (LowStmt n) simple_on lead_simple simple_lead ts _
+      sort_limited lead_of Value IsSimple LeadOf (LowStmt n) simple_on lead_simple (λ a w s g free. simple_lead a w s g) ts _
       (lead_law r exact n some (class_of lead_of Value ts) ts refl)

@@ -7,3 +7,4 @@ pub mod Prints
 pub mod Stages
 pub mod Many
 pub mod Simple
+pub mod Lines
