@@ -9,6 +9,7 @@ use Rattle.parse_laws.specs.Parser.{sees, class_of}
 use Rattle.parse_laws.specs.Language.{Law}
 use Rattle.parse_laws.specs.Limits.{Limited}
 use Rattle.parse_laws.specs.Loops.{Listed, ListedWithin, ListItems}
+use Rattle.parse_laws.proofs.Forms.{rename_law}
 use Rattle.parse_laws.proofs.Limits.{same_law, close_limited}
 use Rattle.parse_laws.proofs.Lists.{FitEach, listed_law}
 use Rattle.grammar_rules.specs.Simple.{IsSimple}
@@ -22,7 +23,7 @@ use Rattle.parse_expressions.proofs.Tokens.{op_kind}
 use Rattle.parse_statements.specs.Heads.{ends_simple_in, simple_on}
 use Rattle.parse_statements.specs.Lines as reading
 use Rattle.parse_statements.specs.Lines.{is_semicolon, is_led, starts_simple, line_on}
-use Rattle.parse_statements.specs.Readers.{Readers, Exact, LowStmt, starts_expr}
+use Rattle.parse_statements.specs.Readers.{Readers, Exact, LowStmt, LowStmts, starts_expr}
 use Rattle.parse_statements.specs.Simple.{Lead, Pass, Break, Continue, Return, Yield, Raise, Assert, Print, Value, lead_in, lead_of, LeadOf, simple}
 use Rattle.parse_statements.proofs.Simples.{simple_lead, simple_law}
 
@@ -99,3 +100,16 @@ module _ (r : Readers) (exact : Exact r) where
       (record { grows = λ row f. f; shrinks = λ row f. f }) ts _
       (same_law Within (Listed is_semicolon IsSimple) (λ row. FitEach (LowStmt n) row.0) line_on (λ a w p. p.0) (λ a w p. (p, grows_any [] w.0)) ts _
       (listed_law is_semicolon IsSimple any_number (LowStmt n) starts_simple simple_on line_on given (simple r n) (simple_law r exact n some) refl ts))
+
+each_low : (n : ℕ) (ss : List Stmt) → FitEach (LowStmt n) ss → LowStmts n ss
+each_low n [] f = tt
+each_low n (s ∷ ss) f = (f.0, each_low n ss f.1)
+
+low_each : (n : ℕ) (ss : List Stmt) → LowStmts n ss → FitEach (LowStmt n) ss
+low_each n [] f = tt
+low_each n (s ∷ ss) f = (f.0, low_each n ss f.1)
+
+pub lines_law : (r : Readers) → Exact r → (n : ℕ) → 1 ≤ n → (cont : Token → Bool) (ts : List Token) → Law IsLine (Limited IsLine (LowStmts n)) cont ts (reading.line r n ts)
+lines_law r exact n some cont ts =
+    rename_law IsLine (Limited IsLine (FitEach (LowStmt n))) IsLine (Limited IsLine (LowStmts n)) cont (λ a w g. g) (λ a w g. (g.0, each_low n w g.1)) (λ a w g. g) (λ a w g. (g.0, low_each n w g.1)) ts
+    (reading.line r n ts) (line_law r exact n some cont ts)

@@ -1,6 +1,6 @@
 -- The parsers of expressions and types that the parser of statements is made of, and what it asks of them: at each limit of
 -- height each of them answers exactly what the grammar says.
-use Rattle.std.specs.Prelude.{◌≡◌, ℕ, ◌≤◌, Bool, true, List, ◌++◌, nat_lt, length, codes}
+use Rattle.std.specs.Prelude.{◌≡◌, ℕ, ◌≤◌, Bool, true, List, [], ◌∷◌, ◌++◌, nat_lt, length, codes}
 use Rattle.indent_lexer.specs.declared.token.Token.{Token}
 use Rattle.source_trees.specs.declared.expression.Expr.{Expr}
 use Rattle.source_trees.specs.declared.item.Annotation.{Annotation}
@@ -43,6 +43,11 @@ LowType room x = height_of_annotation x ≤ room
 -- the statement has at most this height
 abbrev pub LowStmt : ℕ → Stmt → Type 0
 LowStmt room s = height_of_stmt s ≤ room
+
+-- each of these statements has at most this height
+abbrev pub LowStmts : ℕ → List Stmt → Type 0
+LowStmts room [] = Unit {0}
+LowStmts room (s ∷ more) = LowStmt room s × LowStmts room more
 
 -- parsers at each limit of height
 pub record Readers : Type 0 where
