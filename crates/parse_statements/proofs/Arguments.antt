@@ -1,35 +1,33 @@
 -- The law of the arguments of a stage.
-use Rattle.std.proofs.Common.{◌≡◌, ℕ, ◌+◌, ◌<◌, ◌≤◌, nat_le, nat_lt, Bool, true, false, not, ◌||◌, ◌&&◌, List, [], ◌∷◌, ◌++◌, length, map, refl, sym, ◌∙◌, ap, subst, append_assoc, ◌⊎◌, inl, inr, Option, Some, None, codes, arith}
-use Rattle.std.specs.Str.{bytes_eq}
+use Rattle.std.proofs.Common.{◌≡◌, ℕ, ◌+◌, ◌≤◌, nat_le, nat_lt, Bool, true, false, not, ◌||◌, ◌&&◌, List, [], ◌∷◌, ◌++◌, length, map, refl, sym, ◌∙◌, ap, subst, append_assoc, ◌⊎◌, inl, inr, Option, Some, None, codes, arith}
 use Rattle.std.proofs.lemmas.List.{append-nil, length-append}
 use Rattle.std.proofs.lemmas.Bool.{ltb-true, lt-ltb}
 use Rattle.indent_lexer.specs.declared.token.Token.{Token}
 use Rattle.indent_lexer.specs.declared.token.TokenKind.{TokenKind}
 use Rattle.indent_lexer.specs.declared.token.TokenKind.TheVariants as kind
 use Rattle.source_trees.specs.declared.expression.Expr.{Expr}
-use Rattle.source_trees.specs.Heights.{highest, height_of_expr}
-use Rattle.parse_laws.specs.Parser.{Parser, and_then, sees, pure, choose, expect, repeat, row_turn, ◌>>=◌}
+use Rattle.parse_laws.specs.Parser.{and_then, sees, pure, expect, repeat, row_turn, ◌>>=◌}
 use Rattle.parse_laws.specs.Language.{Language, Free, Law}
 use Rattle.parse_laws.specs.Forms.{Then, Made, Is, Opens, Either}
 use Rattle.parse_laws.specs.Limits.{Limited, Joins}
 use Rattle.parse_laws.specs.Loops.{Listed, row_test}
 use Rattle.parse_laws.proofs.Choices.{choose_law}
 use Rattle.parse_laws.proofs.Forms.{wider_at}
-use Rattle.parse_laws.proofs.Limits.{same_law, join_law, made_limited, open_limited, optional_law, pure_limited, either_law}
+use Rattle.parse_laws.proofs.Limits.{same_law, join_law, made_limited, open_limited, optional_law, pure_limited}
 use Rattle.parse_laws.proofs.Lists.{FitEach}
-use Rattle.parse_laws.proofs.Steps.{widen, wider_law}
+use Rattle.parse_laws.proofs.Steps.{widen}
 use Rattle.grammar_rules.specs.Expressions.{IsExpr}
 use Rattle.grammar_rules.specs.Simple.{IsStageArgument, value, piped, IsStageArguments, no_arguments, unplaced, placed}
 use Rattle.grammar_rules.specs.Words.{is_comma, is_spelled, op_in, most_items}
-use Rattle.parse_expressions.specs.Forms.{Low, carried_by, opened_by}
+use Rattle.parse_expressions.specs.Forms.{Low, opened_by}
 use Rattle.parse_expressions.proofs.Tokens.{op_kind}
-use Rattle.parse_statements.specs.Readers.{Readers, Exact, starts_expr, expr_on}
-use Rattle.parse_statements.specs.Prints.{is_bracket_end, printed_on, print_item_on}
+use Rattle.parse_statements.specs.Readers.{Readers, Exact, starts_expr}
+use Rattle.parse_statements.specs.Prints.{printed_on, print_item_on}
 use Rattle.parse_statements.specs.Stages as reading
 use Rattle.parse_statements.specs.Stages.{is_dots, filled, has_piped, cut, may_pass, starts_argument, begins_argument}
 use Rattle.parse_statements.proofs.Commas.{Allowed, GrowsBy, ItemAfter, ListedBy, Following, Tail, first_kept, list_parts, parts_list, following_law}
-use Rattle.parse_statements.proofs.Marks.{either_word, one_word, not_false, comma_ends}
-use Rattle.parse_statements.proofs.Prints.{item_expr, comma_item, printed_item, comma_printed, starts_printed, expr_here}
+use Rattle.parse_statements.proofs.Marks.{one_word}
+use Rattle.parse_statements.proofs.Prints.{comma_item, printed_item, comma_printed, starts_printed, expr_here}
 
 -- an argument within a limit of height
 abbrev pub LowArgument : ℕ → Option Expr → Type 0
@@ -159,8 +157,7 @@ arguments_read _ _ _ (placed a xs ys more g l) =
     let m : filled (map Some xs) ≡ xs = filled-map xs in
     let k : length (filled ((map Some xs) ++ None ∷ [])) ≡ length xs = filled-none (map Some xs) ∙ ap length m in
     let P : List (Option Expr) → Type 0 = λ z. GrowsBy may_pass (map Some xs ++ None ∷ []) z in
-    let later = subst P (append-nil (map Some ys)) (grows_values (map Some xs ++ None ∷ []) ys [] (omega arith) tt) in
-    (
+    let later = subst P (append-nil (map Some ys)) (grows_values (map Some xs ++ None ∷ []) ys [] (omega arith) tt) in (
       map Some xs ++ None ∷ map Some ys,
       inl ((map Some xs ++ None ∷ map Some ys, more), (g, grows_values [] xs (None ∷ map Some ys) (omega arith) (ap not (piped-map xs), later)), refl),
       cut_placed [] xs ys,
@@ -316,10 +313,18 @@ module _ (r : Readers) (exact : Exact r) where
   several_up : (a : List Token) (ys : List (Option Expr)) → Several a ys → Made Arguments (λ w. w.0) a ys
   several_up a ys g =
       let go : ArgumentTail g.value g.second ys → Made Arguments (λ w. w.0) a ys = elim [
-        | inl k ↦ ((ys, true), parts_list is_comma IsStageArgument may_pass a (ys, true)
-            (record { first = g.first; second = g.second; value = g.value; joined = g.joined; heads = g.heads; tails = inl (k.0, k.1, k.2, k.3, (k.4.0, k.4.1, ap (λ z. (z, true)) k.4.2)) }), refl)
-        | inr k ↦ ((ys, false), parts_list is_comma IsStageArgument may_pass a (ys, false)
-            (record { first = g.first; second = g.second; value = g.value; joined = g.joined; heads = g.heads; tails = inr (k.0, ap (λ z. (z, false)) k.1) }), refl)
+        | inl k ↦ (
+          (ys, true),
+          parts_list is_comma IsStageArgument may_pass a (ys, true)
+              (record { first = g.first; second = g.second; value = g.value; joined = g.joined; heads = g.heads; tails = inl (k.0, k.1, k.2, k.3, (k.4.0, k.4.1, ap (λ z. (z, true)) k.4.2)) }),
+          refl,
+        )
+        | inr k ↦ (
+          (ys, false),
+          parts_list is_comma IsStageArgument may_pass a (ys, false)
+              (record { first = g.first; second = g.second; value = g.value; joined = g.joined; heads = g.heads; tails = inr (k.0, ap (λ z. (z, false)) k.1) }),
+          refl,
+        )
       ] in
       go g.tails
 
@@ -383,4 +388,3 @@ module _ (r : Readers) (exact : Exact r) where
       (reading.argument r n >>= reading.more_arguments r n) ts
       (λ h. join_law (After []) print_item_on ArgumentTail printed_on (LowArgument n) (FitEach (LowArgument n)) (several_joins n) ts (reading.argument r n ts)
       (argument_law n [] tt ts (begins_first ts h)) (reading.more_arguments r n) (λ used y us g f e. more_arguments_law n y f us)))
-

@@ -1,9 +1,9 @@
 -- A list of items, seen as its first item and what follows it: a separator and then a row, or nothing. What items may
 -- follow others is a test; so one lemma serves lists that are bounded, and lists whose items depend on those before.
-use Rattle.std.proofs.Common.{◌≡◌, ℕ, ◌+◌, ◌≤◌, nat_lt, Bool, true, false, ◌||◌, ◌&&◌, List, [], ◌∷◌, ◌++◌, length, refl, sym, ◌∙◌, ap, subst, append_assoc, ◌⊎◌, inl, inr, arith}
+use Rattle.std.proofs.Common.{◌≡◌, ℕ, ◌+◌, ◌≤◌, nat_lt, Bool, true, false, ◌||◌, ◌&&◌, List, [], ◌∷◌, ◌++◌, length, refl, sym, ◌∙◌, ap, subst, append_assoc, inl, inr, arith}
 use Rattle.std.proofs.lemmas.List.{append-nil, length-append}
 use Rattle.std.proofs.lemmas.Bool.{ltb-true, lt-ltb}
-use Rattle.parse_laws.specs.Parser.{Parser, Parsed, Stopped, and_then, sees, expect, pure, repeat, row_turn, ◌>>=◌, ◌>>◌}
+use Rattle.parse_laws.specs.Parser.{Parser, and_then, sees, expect, pure, repeat, row_turn, ◌>>=◌}
 use Rattle.parse_laws.specs.Language.{Language, Law}
 use Rattle.parse_laws.specs.Forms.{Then, Made, Is, Opens, Either}
 use Rattle.parse_laws.specs.Limits.{Limited, Carries}

@@ -1,7 +1,5 @@
 -- The laws of items before `=`, and of what ends them.
-use Rattle.std.proofs.Common.{◌≡◌, ℕ, ◌+◌, ◌-◌, ◌<◌, ◌≤◌, max, nat_le, nat_lt, Bool, true, false, not, cond, ◌||◌, ◌&&◌, List, [], ◌∷◌, ◌++◌, length, map, refl, sym, ◌∙◌, ap, subst, ◌⊎◌, inl, inr, Option, Some, None, codes, arith}
-use Rattle.std.proofs.lemmas.List.{append-nil}
-use Rattle.std.proofs.lemmas.Bool.{leb-true, le-leb}
+use Rattle.std.proofs.Common.{◌≡◌, ℕ, ◌+◌, ◌-◌, ◌<◌, ◌≤◌, max, Bool, true, false, cond, ◌||◌, ◌&&◌, List, [], ◌∷◌, ◌++◌, refl, sym, ◌∙◌, ap, subst, inl, inr, Option, Some, None, codes, arith}
 use Rattle.indent_lexer.specs.declared.token.Token.{Token}
 use Rattle.source_trees.specs.declared.expression.Commas.TheVariants.{Bare}
 use Rattle.source_trees.specs.declared.expression.Expr.{Expr}
@@ -10,38 +8,35 @@ use Rattle.source_trees.specs.declared.statement.Stmt.{Stmt}
 use Rattle.source_trees.specs.declared.statement.Stmt.TheVariants as stmt
 use Rattle.source_trees.specs.declared.statement.Target.{Target}
 use Rattle.source_trees.specs.declared.statement.Targets.{Targets}
-use Rattle.source_trees.specs.declared.statement.Targets.TheVariants as targets
-use Rattle.source_trees.specs.Heights.{highest, height_of_expr, height_of_target, height_of_targets, height_of_stmt, over_parts}
+use Rattle.source_trees.specs.Heights.{height_of_expr, height_of_targets, height_of_stmt, over_parts}
 use Rattle.parse_laws.specs.declared.cause.Cause.TheVariants.{Unexpected}
-use Rattle.parse_laws.specs.Parser.{Outcome, Parsed, Stopped, Parser, and_then, sees, pure, choose, within, in_table, ◌>>=◌}
-use Rattle.parse_laws.specs.Language.{Language, Free, Viable, Law}
-use Rattle.parse_laws.specs.Forms.{Then, Made, Is, Opens, Either}
-use Rattle.parse_laws.specs.Limits.{Limited, Joins, Carries, Nothing}
-use Rattle.parse_laws.specs.Loops.{Row, RowState, RowStep, Turns, done, next}
-use Rattle.parse_laws.proofs.Forms.{wider_at, rename_law}
-use Rattle.parse_laws.proofs.Limits.{same_law, pure_limited, nothing_law, join_law, made_limited, open_limited, either_law, limit_law}
+use Rattle.parse_laws.specs.Parser.{Outcome, Parsed, Stopped, Parser, sees, pure, choose, ◌>>=◌}
+use Rattle.parse_laws.specs.Language.{Language, Free, Law}
+use Rattle.parse_laws.specs.Forms.{Made, Is, Opens, Either}
+use Rattle.parse_laws.specs.Limits.{Limited, Nothing}
+use Rattle.parse_laws.proofs.Limits.{same_law, pure_limited, nothing_law, made_limited, open_limited, either_law}
 use Rattle.parse_laws.proofs.Lists.{FitEach}
 use Rattle.parse_laws.proofs.Steps.{wider_law}
 use Rattle.grammar_rules.specs.Expressions.{node_of, IsExpr, last as row_last}
 use Rattle.grammar_rules.specs.Simple.{node_of_targets, IsItems, item}
-use Rattle.grammar_rules.specs.Words.{is_comma, node_at, most_items}
+use Rattle.grammar_rules.specs.Words.{is_comma, node_at}
 use Rattle.parse_expressions.specs.Forms.{Low}
 use Rattle.parse_expressions.specs.declared.form.Form.TheVariants as form
 use Rattle.parse_expressions.proofs.Heights.{height-Name, height-Tuple}
 use Rattle.parse_expressions.proofs.Least.{least}
-use Rattle.parse_expressions.proofs.Lows.{highest_up, highest_down, x_low, positive}
-use Rattle.parse_expressions.proofs.Opens.{x_token, x_tree, op_token, keyword_token, opens}
-use Rattle.parse_statements.specs.Targets.{target_of, targets_of, is_pointed, is_print, IsPointed, IsPrintName}
+use Rattle.parse_expressions.proofs.Lows.{highest_up}
+use Rattle.parse_expressions.proofs.Opens.{x_token, x_tree}
+use Rattle.parse_statements.specs.Targets.{targets_of, is_print, IsPointed, IsPrintName}
 use Rattle.parse_statements.specs.Readers.{Readers, Exact, LowStmt, starts_expr, starts_postfix, expr_on, postfix_on}
 use Rattle.parse_statements.specs.Items.{items, items_on}
 use Rattle.parse_statements.specs.Heads as reading
 use Rattle.parse_statements.specs.Heads.{is_equals, is_print_word, all_pointed, takes_value, is_value, may_follow, starts_head, simple_on, row_on, several_targets, evaluated}
 use Rattle.parse_statements.specs.Forms.{IsHead, Sure, AssignTo, RowEnd}
-use Rattle.parse_statements.proofs.Commas.{Allowed, ItemAfter, add, rows_law}
+use Rattle.parse_statements.proofs.Commas.{Allowed, ItemAfter}
 use Rattle.parse_statements.proofs.Heights.{stmt_Assign, stmt_Evaluate}
 use Rattle.parse_statements.proofs.Items.{items_law}
-use Rattle.parse_statements.proofs.Marks.{simple_items, simple_expr, simple_row, equals_row, equals_expr, row_expr, comma_row, comma_ends, equals_simple, comma_simple, starts_row, postfix_starts_expr, expr_postfix_on, print_row, starts_no_print}
-use Rattle.parse_statements.proofs.States.{may_value, may_target, by_follow, Fine, fine_snoc, targets_height}
+use Rattle.parse_statements.proofs.Marks.{simple_items, row_expr, comma_row, comma_ends, equals_simple, starts_row, postfix_starts_expr, expr_postfix_on, print_row, starts_no_print}
+use Rattle.parse_statements.proofs.States.{may_value, may_target, by_follow, targets_height}
 use Rattle.parse_statements.proofs.Targets.{expr_postfix, postfix_expr, expr_not_print, print_name_print, print_name_pointed}
 
 -- ---- items

@@ -1,5 +1,5 @@
 -- The height of each form of statement by those of its parts.
-use Rattle.std.proofs.Common.{◌≡◌, ℕ, ◌+◌, ◌≤◌, max, List, [], ◌∷◌, ◌++◌, map, Option, Some, None, ap, sym, ◌∙◌, arith}
+use Rattle.std.proofs.Common.{◌≡◌, List, [], ◌∷◌, ◌++◌, map, Option, ap, sym, ◌∙◌}
 use Rattle.std.specs.List.{flat_map}
 use Rattle.source_trees.specs.declared.operator.BinaryOp.{BinaryOp}
 use Rattle.source_trees.specs.declared.node.Node.{Node}
@@ -16,7 +16,7 @@ use Rattle.source_trees.specs.declared.statement.For.{For}
 use Rattle.source_trees.specs.declared.pipeline.Printed.{Printed}
 use Rattle.source_trees.specs.declared.pipeline.Stage.{Stage}
 use Rattle.source_trees.specs.declared.item.Annotation.{Annotation}
-use Rattle.source_trees.specs.Parts.{optional, of_name, of_loop_names, of_expr, of_annotation, of_target, of_targets, of_printed, of_stage, of_optional_expr, of_stmt, of_arm, of_for, stmt_step, arm_step, for_step}
+use Rattle.source_trees.specs.Parts.{of_name, of_loop_names, of_expr, of_annotation, of_target, of_targets, of_printed, of_stage, of_optional_expr, of_stmt, of_arm, of_for, stmt_step, arm_step, for_step}
 
 module _ {A : Type 0} (node : Node → List A → A) where
   pub stmt_Pass : (n : Node) → of_stmt node (stmt.Pass n) ≡ node n []

@@ -1,19 +1,17 @@
 -- The law of expressions with commas.
-use Rattle.std.proofs.Common.{◌≡◌, ℕ, ◌+◌, ◌-◌, ◌<◌, ◌≤◌, max, nat_lt, Bool, true, false, ◌||◌, List, [], ◌∷◌, ◌++◌, length, map, refl, sym, ◌∙◌, ap, subst, ◌⊎◌, inl, inr, arith}
+use Rattle.std.proofs.Common.{◌≡◌, ℕ, ◌-◌, ◌<◌, ◌≤◌, nat_lt, Bool, true, false, List, [], ◌∷◌, ◌++◌, refl, sym, ◌∙◌, ap, subst, inl, inr, arith}
 use Rattle.std.proofs.lemmas.List.{append-nil}
 use Rattle.std.proofs.lemmas.Bool.{ltb-true, lt-ltb}
 use Rattle.indent_lexer.specs.declared.token.Token.{Token}
-use Rattle.source_trees.specs.declared.node.Node.{Node}
-use Rattle.source_trees.specs.declared.expression.Commas.{Commas}
 use Rattle.source_trees.specs.declared.expression.Commas.TheVariants.{Bare}
 use Rattle.source_trees.specs.declared.expression.Expr.{Expr}
 use Rattle.source_trees.specs.declared.expression.Expr.TheVariants as e
-use Rattle.source_trees.specs.Heights.{highest, over_parts, height_of_expr}
+use Rattle.source_trees.specs.Heights.{height_of_expr}
 use Rattle.parse_expressions.proofs.Heights.{height-Tuple}
 use Rattle.parse_expressions.proofs.Lows.{highest_up, highest_down}
-use Rattle.parse_laws.specs.Parser.{Parsed, and_then, sees, pure, choose, within}
-use Rattle.parse_laws.specs.Language.{Language, Free, Viable, Law}
-use Rattle.parse_laws.specs.Forms.{Then, Made, Is, Either}
+use Rattle.parse_laws.specs.Parser.{sees, pure, choose, within}
+use Rattle.parse_laws.specs.Language.{Language, Free, Law}
+use Rattle.parse_laws.specs.Forms.{Then, Is, Either}
 use Rattle.parse_laws.specs.Limits.{Limited, Joins}
 use Rattle.parse_laws.specs.Loops.{Listed, last, trailing, another, done, starts_in}
 use Rattle.parse_laws.proofs.Limits.{same_law, join_law, optional_law, limit_law}
@@ -60,8 +58,8 @@ items_up a w g =
       | inl k ↦
           let d = first_kept is_comma IsExpr (up_to most_items) (λ s. s) g.value g.second k.4.0.0 (k.0, k.1, k.2, k.3, (k.4.0, k.4.1, refl)) in
           let l : ListedItems a (k.4.0.0, true) =
-              parts_list is_comma IsExpr (up_to most_items) a (k.4.0.0, true)
-              (record { first = g.first; second = g.second; value = g.value; joined = g.joined; heads = (g.heads, refl); tails = inl (k.0, k.1, k.2, k.3, (k.4.0, k.4.1, refl)) }) in
+          parts_list is_comma IsExpr (up_to most_items) a (k.4.0.0, true)
+          (record { first = g.first; second = g.second; value = g.value; joined = g.joined; heads = (g.heads, refl); tails = inl (k.0, k.1, k.2, k.3, (k.4.0, k.4.1, refl)) }) in
           let P : List Expr → Type 0 = λ z. ListedItems a (z, true) in
           let l2 = subst P d.1 l in
           let Q : Expr → Type 0 = λ z. IsItems a z in

@@ -1,14 +1,11 @@
 -- The laws of simple statements, by their first token.
-use Rattle.std.proofs.Common.{◌≡◌, ℕ, ◌+◌, ◌-◌, ◌<◌, ◌≤◌, max, nat_le, Bool, true, false, not, cond, ◌||◌, ◌&&◌, List, [], ◌∷◌, ◌++◌, length, map, refl, sym, ◌∙◌, ap, subst, append_assoc, ◌⊎◌, inl, inr, Option, Some, None, codes, arith}
+use Rattle.std.proofs.Common.{◌≡◌, ℕ, ◌+◌, ◌-◌, ◌<◌, ◌≤◌, max, nat_le, Bool, true, false, not, cond, ◌||◌, List, [], ◌∷◌, ◌++◌, refl, sym, ◌∙◌, ap, subst, append_assoc, inl, inr, Option, Some, None, codes, arith}
 use Rattle.std.specs.Str.{bytes_eq}
-use Rattle.std.proofs.lemmas.Slice.Eq.{bytes_eq-Decides}
-use Rattle.std.proofs.lemmas.List.{append-nil}
 use Rattle.std.proofs.lemmas.Bool.{leb-true, le-leb}
 use Rattle.indent_lexer.specs.declared.token.Token.{Token}
 use Rattle.indent_lexer.specs.declared.token.TokenKind.{TokenKind}
 use Rattle.indent_lexer.specs.declared.token.TokenKind.TheVariants as kind
 use Rattle.source_trees.specs.declared.expression.Expr.{Expr}
-use Rattle.source_trees.specs.declared.expression.Expr.TheVariants as e
 use Rattle.source_trees.specs.declared.node.Name.{Name}
 use Rattle.source_trees.specs.declared.operator.BinaryOp.{BinaryOp}
 use Rattle.source_trees.specs.declared.pipeline.Joint.{Joint}
@@ -20,36 +17,35 @@ use Rattle.source_trees.specs.declared.statement.Target.{Target}
 use Rattle.source_trees.specs.declared.statement.Target.TheVariants as target
 use Rattle.source_trees.specs.declared.statement.Targets.{Targets}
 use Rattle.source_trees.specs.declared.statement.Targets.TheVariants as targets
-use Rattle.source_trees.specs.Heights.{highest, height_of_expr, height_of_target, height_of_printed, height_of_stmt, over_parts}
+use Rattle.source_trees.specs.Heights.{highest, height_of_expr, height_of_printed, height_of_stmt, over_parts}
 use Rattle.source_trees.specs.Parts.{of_optional_expr}
-use Rattle.parse_laws.specs.Parser.{Outcome, Parsed, Stopped, Parser, and_then, sees, pure, refuse, choose, within, in_table, expect, take_by, has, class_of, ◌>>=◌, ◌>>◌}
+use Rattle.parse_laws.specs.Parser.{and_then, sees, pure, refuse, choose, within, in_table, expect, take_by, class_of, ◌>>=◌, ◌>>◌}
 use Rattle.parse_laws.specs.Language.{Language, Free, Viable, Law}
 use Rattle.parse_laws.specs.Forms.{Then, Made, Is, Opens, Closes, Picks, Either, never}
-use Rattle.parse_laws.specs.Limits.{Limited, Joins}
+use Rattle.parse_laws.specs.Limits.{Limited}
 use Rattle.parse_laws.specs.Loops.{done}
 use Rattle.parse_laws.proofs.Choices.{choose_law}
 use Rattle.parse_laws.proofs.Forms.{wider_at, free_never}
-use Rattle.parse_laws.proofs.Limits.{same_law, join_law, made_limited, open_limited, close_limited, optional_law, pure_limited, take_limited, either_law, limit_law}
-use Rattle.parse_laws.proofs.Sorts.{sort_limited}
+use Rattle.parse_laws.proofs.Limits.{join_law, made_limited, open_limited, close_limited, optional_law, pure_limited, take_limited, either_law, limit_law}
 use Rattle.parse_laws.proofs.Steps.{wider_law, refuse_law}
 use Rattle.grammar_rules.specs.Expressions as e2
 use Rattle.grammar_rules.specs.Expressions.{node_of, IsExpr, IsRow}
 use Rattle.grammar_rules.specs.Levels.{updates}
 use Rattle.grammar_rules.specs.Simple as g
 use Rattle.grammar_rules.specs.Simple.{IsItems, IsPrint, IsPrinted, IsStages, IsSimple, node_of_target, node_of_targets, joints}
-use Rattle.grammar_rules.specs.Words.{is_op, is_keyword, is_comma, is_spelled, keyword_in, op_in, name_in, name_at, look_up, entry, entry_of, node_at}
+use Rattle.grammar_rules.specs.Words.{is_keyword, is_comma, is_spelled, keyword_in, op_in, name_at, look_up, entry, entry_of, node_at}
 use Rattle.parse_expressions.specs.Forms.{Low, carried_by, opened_by}
 use Rattle.parse_expressions.specs.declared.form.Form.TheVariants as form
 use Rattle.parse_expressions.proofs.Heights.{height-Name}
 use Rattle.parse_expressions.proofs.Least.{least}
-use Rattle.parse_expressions.proofs.Lows.{positive, x_low}
-use Rattle.parse_expressions.proofs.Opens.{sample, x_token, x_tree, op_token}
-use Rattle.parse_expressions.proofs.Tokens.{op_kind, keyword_kind, look_up_passes}
-use Rattle.parse_statements.specs.Targets.{both, target_of, is_print, IsPrintName}
+use Rattle.parse_expressions.proofs.Lows.{positive}
+use Rattle.parse_expressions.proofs.Opens.{x_token, x_tree, op_token}
+use Rattle.parse_expressions.proofs.Tokens.{op_kind, look_up_passes}
+use Rattle.parse_statements.specs.Targets.{both, target_of, is_print}
 use Rattle.parse_statements.specs.Readers.{Readers, Exact, LowStmt, starts_expr, expr_on}
-use Rattle.parse_statements.specs.Items.{items, items_on}
-use Rattle.parse_statements.specs.Heads.{is_equals, is_print_word, ends_simple_in, simple_on, one_target, evaluated, is_value}
-use Rattle.parse_statements.specs.Forms.{IsHead, AssignTo, UpdateTo}
+use Rattle.parse_statements.specs.Items.{items}
+use Rattle.parse_statements.specs.Heads.{is_print_word, ends_simple_in, simple_on, one_target, evaluated}
+use Rattle.parse_statements.specs.Forms.{AssignTo, UpdateTo}
 use Rattle.parse_statements.specs.Prints as print
 use Rattle.parse_statements.specs.Prints.{is_bracket_end, printed_on}
 use Rattle.parse_statements.specs.Stages.{is_bracket}
@@ -57,14 +53,13 @@ use Rattle.parse_statements.specs.Simple as reading
 use Rattle.parse_statements.specs.Simple.{Follow, Comma, Equals, Augmented, Piped, Colon, Over, follow_op, follow_in, follow_of, is_goer, print_goes, is_colon, annotation_of, AnnotateAs, TailOf, HeadTail, piped_to, Lead, Pass, Break, Continue, Return, Yield, Raise, Assert, Print, Value, lead_word, lead_in, lead_of, print_tree, PrintCall, FaultText, Message, LeadOf}
 use Rattle.parse_statements.proofs.Heads.{least_items, value_law, assign_height, evaluated_height}
 use Rattle.parse_statements.proofs.Heights.{stmt_Pass, stmt_Break, stmt_Continue, stmt_Return, stmt_Yield, stmt_Raise, stmt_Assert, stmt_Update, stmt_Annotated, stmt_Pipeline, stmt_Print}
-use Rattle.parse_statements.proofs.Marks.{one_word, not_false, equals_expr, simple_expr, comma_ends, comma_simple, starts_row}
+use Rattle.parse_statements.proofs.Marks.{one_word, equals_expr, simple_expr, comma_ends, comma_simple}
 use Rattle.parse_statements.proofs.Prints.{LowPrinted, starts_printed, printed_item, item_expr}
 use Rattle.parse_statements.proofs.Printed.{printed_law}
 use Rattle.parse_statements.proofs.Rows.{row_tail_low, row_end_any}
-use Rattle.parse_statements.proofs.Shapes.{Headed, headed_simple, assign_headed, items_headed, note_headed, named_head, target_head}
 use Rattle.parse_statements.proofs.States.{Fine}
 use Rattle.parse_statements.proofs.Tails.{type_token, type_tree, least_type, printed_low, low_printed, way_first, class_comma, tail_law}
-use Rattle.parse_statements.proofs.Targets.{target_height, expr_not_print, name_target, name_print, print_name_print, print_name_pointed}
+use Rattle.parse_statements.proofs.Targets.{target_height, expr_not_print, name_target, name_print}
 
 -- ---- what a class of first tokens tells
 
@@ -199,7 +194,6 @@ way_high n x Over a w g f =
     let l = evaluated_height x in
     omega arith
 
-
 -- ---- what may follow the name `print`
 
 abbrev chain5 : Bool → Bool → Bool → Bool → Bool → Follow
@@ -293,20 +287,21 @@ goes_viable u t Equals h k =
 goes_viable u t Augmented h k =
     let o = in_some (look_up updates t) (follows_augmented_here t h) in
     let v = stmt.Update (node_at u) (target.Name (node_at u) (codes "print")) o.0 x_tree in
-    let P : Option Target → Type 0 = λ z. UpdateTo z (t ∷ x_token ∷ []) v in
-    (
+    let P : Option Target → Type 0 = λ z. UpdateTo z (t ∷ x_token ∷ []) v in (
       x_token ∷ [],
       v,
       (Augmented, subst P (sym (print_target_is u)) (record { first = t ∷ []; second = x_token ∷ []; value = o.0; joined = refl; heads = (t, refl, o.1); tails = (x_tree, least_items, refl) })),
     )
 goes_viable u t Colon h k =
     let v = annotation_of (node_at u) (codes "print") type_tree None in
-    let P : Option Target → Type 0 = λ z. AnnotateAs z (t ∷ type_token ∷ []) v in
-    (
+    let P : Option Target → Type 0 = λ z. AnnotateAs z (t ∷ type_token ∷ []) v in (
       type_token ∷ [],
       v,
-      (Colon, subst P (sym (print_target_is u))
-          (t, type_token ∷ [], refl, follows_colon_here t h, record { first = type_token ∷ []; second = []; value = type_tree; joined = refl; heads = least_type; tails = inr (refl, refl) })),
+      (
+        Colon,
+        subst P (sym (print_target_is u))
+            (t, type_token ∷ [], refl, follows_colon_here t h, record { first = type_token ∷ []; second = []; value = type_tree; joined = refl; heads = least_type; tails = inr (refl, refl) }),
+      ),
     )
 goes_viable u t Piped h k = absurd (cc)
 goes_viable u t Over h k = absurd (cc)
@@ -418,11 +413,11 @@ module _ (r : Readers) (exact : Exact r) where
       open_limited (is_keyword (codes "return")) (λ t. Either (Made IsItems (λ x. stmt.Return (node_at t) (Some x))) (Is (stmt.Return (node_at t) None))) (LowStmt n) simple_on
       (λ t h. ([], stmt.Return (node_at t) None, (inr (refl, refl), let k = stmt_Return over_parts (node_at t) None in omega arith))) ts _
       (λ t us h k. optional_law (Made IsItems (λ x. stmt.Return (node_at t) (Some x))) (stmt.Return (node_at t) None) (LowStmt n) (let i = stmt_Return over_parts (node_at t) None in omega arith) simple_on starts_expr
-          (λ a w s i. items_start a i.0 s i.1) starts_simple
-          (items r (n - 1) >>= λ x. pure (stmt.Return (node_at t) (Some x))) us
-          (λ i. made_limited IsItems simple_on (λ x. stmt.Return (node_at t) (Some x)) (Low (n - 1)) (LowStmt n)
-              (record { grows = λ x f. let j = stmt_Return over_parts (node_at t) (Some x) in omega arith; shrinks = λ x f. let j = stmt_Return over_parts (node_at t) (Some x) in omega arith })
-              us (items r (n - 1) us) (value_law r exact (n - 1) us)))
+      (λ a w s i. items_start a i.0 s i.1) starts_simple
+      (items r (n - 1) >>= λ x. pure (stmt.Return (node_at t) (Some x))) us
+      (λ i. made_limited IsItems simple_on (λ x. stmt.Return (node_at t) (Some x)) (Low (n - 1)) (LowStmt n)
+      (record { grows = λ x f. let j = stmt_Return over_parts (node_at t) (Some x) in omega arith; shrinks = λ x f. let j = stmt_Return over_parts (node_at t) (Some x) in omega arith })
+      us (items r (n - 1) us) (value_law r exact (n - 1) us)))
 
   yield_law : (n : ℕ) (ts : List Token) → sees (is_keyword (codes "yield")) ts ≡ true
       → Law (LeadOf Yield) (Limited (LeadOf Yield) (LowStmt n)) simple_on ts
@@ -431,18 +426,18 @@ module _ (r : Readers) (exact : Exact r) where
       limit_law (LeadOf Yield) (LowStmt n) simple_on (is_keyword (codes "yield")) (nat_le 2 n)
       (λ t i. (x_token ∷ [], stmt.Yield (node_at t) x_tree, (t, x_token ∷ [], refl, i, (x_tree, least_items, refl))))
       (λ none a v s k f free i.
-          let P : Stmt → Type 0 = λ z. LowStmt n z in
-          let q : LowStmt n (stmt.Yield (node_at k.0) k.4.0) = subst P k.4.2 f in
-          let l = stmt_Yield over_parts (node_at k.0) k.4.0 in
-          let m = positive k.4.0 in
-          let j = le-leb 2 n (omega arith) in absurd (cc))
+      let P : Stmt → Type 0 = λ z. LowStmt n z in
+      let q : LowStmt n (stmt.Yield (node_at k.0) k.4.0) = subst P k.4.2 f in
+      let l = stmt_Yield over_parts (node_at k.0) k.4.0 in
+      let m = positive k.4.0 in
+      let j = le-leb 2 n (omega arith) in absurd (cc))
       (λ us. and_then (expect (is_keyword (codes "yield")) us) (λ t. items r (n - 1) >>= λ x. pure (stmt.Yield (node_at t) x))) ts h
       (λ two. open_limited (is_keyword (codes "yield")) (λ t. Made IsItems (λ x. stmt.Yield (node_at t) x)) (LowStmt n) simple_on
-          (λ t i. (x_token ∷ [], stmt.Yield (node_at t) x_tree, ((x_tree, least_items, refl), let k = stmt_Yield over_parts (node_at t) x_tree in let l = height-Name (node_at x_token) (codes "x") in let m = leb-true 2 n two in omega arith)))
-          ts _
-          (λ t us i k. made_limited IsItems simple_on (λ x. stmt.Yield (node_at t) x) (Low (n - 1)) (LowStmt n)
-              (record { grows = λ x f. let j = stmt_Yield over_parts (node_at t) x in let m = leb-true 2 n two in omega arith; shrinks = λ x f. let j = stmt_Yield over_parts (node_at t) x in omega arith })
-              us (items r (n - 1) us) (value_law r exact (n - 1) us)))
+      (λ t i. (x_token ∷ [], stmt.Yield (node_at t) x_tree, ((x_tree, least_items, refl), let k = stmt_Yield over_parts (node_at t) x_tree in let l = height-Name (node_at x_token) (codes "x") in let m = leb-true 2 n two in omega arith)))
+      ts _
+      (λ t us i k. made_limited IsItems simple_on (λ x. stmt.Yield (node_at t) x) (Low (n - 1)) (LowStmt n)
+      (record { grows = λ x f. let j = stmt_Yield over_parts (node_at t) x in let m = leb-true 2 n two in omega arith; shrinks = λ x f. let j = stmt_Yield over_parts (node_at t) x in omega arith })
+      us (items r (n - 1) us) (value_law r exact (n - 1) us)))
 
   -- ---- `raise`
 
@@ -521,7 +516,7 @@ module _ (r : Readers) (exact : Exact r) where
   raise_law : (n : ℕ) (ts : List Token) → sees (is_keyword (codes "raise")) ts ≡ true
       → Law (LeadOf Raise) (Limited (LeadOf Raise) (LowStmt n)) simple_on ts
       (within (nat_le 2 n) (λ us. and_then (expect (is_keyword (codes "raise")) us)
-          (λ t. take_by name_at >>= λ m. choose is_bracket (reading.fault_text r n t m) (pure (stmt.Raise (node_at t) m None)))) ts)
+      (λ t. take_by name_at >>= λ m. choose is_bracket (reading.fault_text r n t m) (pure (stmt.Raise (node_at t) m None)))) ts)
   raise_law n ts h =
       let some : (t : Token) → Then (Picks name_at) (Fault t) (x_token ∷ []) (stmt.Raise (node_at t) x_name None) =
       λ t. record { first = x_token ∷ []; second = []; value = x_name; joined = refl; heads = (x_token, refl, refl); tails = inr (refl, refl) } in
@@ -530,8 +525,8 @@ module _ (r : Readers) (exact : Exact r) where
       (λ none a v s k f free i. let j = le-leb 2 n (fault_high n k.0 k.4.value k.4.second v k.4.tails f) in absurd (cc))
       (λ us. and_then (expect (is_keyword (codes "raise")) us) (λ t. take_by name_at >>= λ m. choose is_bracket (reading.fault_text r n t m) (pure (stmt.Raise (node_at t) m None)))) ts h
       (λ two. open_limited (is_keyword (codes "raise")) (λ t. Then (Picks name_at) (Fault t)) (LowStmt n) simple_on
-          (λ t i. (x_token ∷ [], stmt.Raise (node_at t) x_name None, (some t, text_up n (leb-true 2 n two) t x_name None tt)))
-          ts _ (λ t us i k. named_law n (leb-true 2 n two) t us))
+      (λ t i. (x_token ∷ [], stmt.Raise (node_at t) x_name None, (some t, text_up n (leb-true 2 n two) t x_name None tt)))
+      ts _ (λ t us i k. named_law n (leb-true 2 n two) t us))
 
   -- ---- `assert`
 
@@ -545,11 +540,11 @@ module _ (r : Readers) (exact : Exact r) where
       (λ a w s i. ap (λ z. sees is_comma (z ++ s)) i.2 ∙ i.3) comma_simple
       (λ us. and_then (expect is_comma us) (λ _. r.expr (n - 1) >>= λ y. pure (stmt.Assert (node_at t) x (Some y)))) ts
       (λ h. open_limited is_comma (λ _. Made IsExpr (λ y. stmt.Assert (node_at t) x (Some y))) (LowStmt n) simple_on
-          (λ u i. (x_token ∷ [], stmt.Assert (node_at t) x (Some x_tree), ((x_tree, least form.Whole, refl), let k = assert_height t x (Some x_tree) in let j = height-Name (node_at x_token) (codes "x") in omega arith)))
-          ts (λ _. r.expr (n - 1) >>= λ y. pure (stmt.Assert (node_at t) x (Some y)))
-          (λ u us i k. made_limited IsExpr simple_on (λ y. stmt.Assert (node_at t) x (Some y)) (Low (n - 1)) (LowStmt n)
-              (record { grows = λ y f. let j = assert_height t x (Some y) in omega arith; shrinks = λ y f. let j = assert_height t x (Some y) in omega arith })
-              us (r.expr (n - 1) us) (wider_law IsExpr (Limited IsExpr (Low (n - 1))) expr_on simple_on simple_expr us (r.expr (n - 1) us) (exact.expr_law (n - 1) us))))
+      (λ u i. (x_token ∷ [], stmt.Assert (node_at t) x (Some x_tree), ((x_tree, least form.Whole, refl), let k = assert_height t x (Some x_tree) in let j = height-Name (node_at x_token) (codes "x") in omega arith)))
+      ts (λ _. r.expr (n - 1) >>= λ y. pure (stmt.Assert (node_at t) x (Some y)))
+      (λ u us i k. made_limited IsExpr simple_on (λ y. stmt.Assert (node_at t) x (Some y)) (Low (n - 1)) (LowStmt n)
+      (record { grows = λ y f. let j = assert_height t x (Some y) in omega arith; shrinks = λ y f. let j = assert_height t x (Some y) in omega arith })
+      us (r.expr (n - 1) us) (wider_law IsExpr (Limited IsExpr (Low (n - 1))) expr_on simple_on simple_expr us (r.expr (n - 1) us) (exact.expr_law (n - 1) us))))
 
   message_apart : (t : Token) (x : Expr) (c : List Token) (w : Stmt) (s : List Token) → Message t x c w → Free simple_on s → Free expr_on (c ++ s)
   message_apart t x c w s (inl i) free = ap (λ z. sees expr_on (z ++ s)) i.2 ∙ comma_ends i.0 i.3
@@ -578,16 +573,16 @@ module _ (r : Readers) (exact : Exact r) where
       (λ none a v s k f free i. let q = message_high n k.0 k.4.value k.4.second v k.4.tails f in let m = positive k.4.value in let j = le-leb 2 n (omega arith) in absurd (cc))
       (λ us. and_then (expect (is_keyword (codes "assert")) us) (λ t. r.expr (n - 1) >>= reading.message r n t)) ts h
       (λ two. open_limited (is_keyword (codes "assert")) (λ t. Then IsExpr (Message t)) (LowStmt n) simple_on
-          (λ t i. (x_token ∷ [], stmt.Assert (node_at t) x_tree None, (some t, let k = assert_height t x_tree None in let j = height-Name (node_at x_token) (codes "x") in let q = leb-true 2 n two in omega arith)))
-          ts _
-          (λ t us i k. join_law IsExpr expr_on (Message t) simple_on (Low (n - 1)) (LowStmt n)
-              (record {
-                apart = λ a x p c w s q free. message_apart t x c w s q free;
-                ends = λ a x p. ([], stmt.Assert (node_at t) x None, inr (refl, refl));
-                ends_within = λ a x p f. ([], stmt.Assert (node_at t) x None, (inr (refl, refl), let j = assert_height t x None in let q = leb-true 2 n two in omega arith));
-                shrinks = λ a x p c w q f. let j = message_high n t x c w q f in omega arith;
-              }) us (r.expr (n - 1) us) (exact.expr_law (n - 1) us) (reading.message r n t)
-              (λ used x vs p f e. message_law n (leb-true 2 n two) t x (let q = leb-true 2 n two in omega arith) vs)))
+      (λ t i. (x_token ∷ [], stmt.Assert (node_at t) x_tree None, (some t, let k = assert_height t x_tree None in let j = height-Name (node_at x_token) (codes "x") in let q = leb-true 2 n two in omega arith)))
+      ts _
+      (λ t us i k. join_law IsExpr expr_on (Message t) simple_on (Low (n - 1)) (LowStmt n)
+      (record {
+        apart = λ a x p c w s q free. message_apart t x c w s q free;
+        ends = λ a x p. ([], stmt.Assert (node_at t) x None, inr (refl, refl));
+        ends_within = λ a x p f. ([], stmt.Assert (node_at t) x None, (inr (refl, refl), let j = assert_height t x None in let q = leb-true 2 n two in omega arith));
+        shrinks = λ a x p c w q f. let j = message_high n t x c w q f in omega arith;
+      }) us (r.expr (n - 1) us) (exact.expr_law (n - 1) us) (reading.message r n t)
+      (λ used x vs p f e. message_law n (leb-true 2 n two) t x (let q = leb-true 2 n two in omega arith) vs)))
 
   -- ---- `print`
 
@@ -616,10 +611,10 @@ module _ (r : Readers) (exact : Exact r) where
       (λ a w s i free. goes_no_bracket (a ++ s) (tail_goes t a w s i free)) (reading.print_call r n t) (choose print_goes (within (nat_le 2 n) (reading.tail r n x)) refuse) ts
       (λ h. call_law n some t ts)
       (λ h. choose_law (HeadTail x) (Limited (HeadTail x) (LowStmt n)) simple_on print_goes ts _ _
-          (λ i. limit_law (HeadTail x) (LowStmt n) simple_on print_goes (nat_le 2 n) (λ u j. goes_viable t u (follow_of u) refl j)
-              (λ none a v s k f free j. let q = way_high n x k.0 a v k.1 f in let m = le-leb 2 n (omega arith) in absurd (cc))
-              (reading.tail r n x) ts i (λ two. tail_law r exact n (leb-true 2 n two) x (print_fine t) (let q = leb-true 2 n two in omega arith) ts))
-          (λ i. refuse_law (HeadTail x) (Limited (HeadTail x) (LowStmt n)) simple_on print_goes false (λ a v s k free j. let q = tail_goes t a v s k free in absurd (cc)) ts i))
+      (λ i. limit_law (HeadTail x) (LowStmt n) simple_on print_goes (nat_le 2 n) (λ u j. goes_viable t u (follow_of u) refl j)
+      (λ none a v s k f free j. let q = way_high n x k.0 a v k.1 f in let m = le-leb 2 n (omega arith) in absurd (cc))
+      (reading.tail r n x) ts i (λ two. tail_law r exact n (leb-true 2 n two) x (print_fine t) (let q = leb-true 2 n two in omega arith) ts))
+      (λ i. refuse_law (HeadTail x) (Limited (HeadTail x) (LowStmt n)) simple_on print_goes false (λ a v s k free j. let q = tail_goes t a v s k free in absurd (cc)) ts i))
 
   print_lead_law : (n : ℕ) → 1 ≤ n → (ts : List Token) → Law (LeadOf Print) (Limited (LeadOf Print) (LowStmt n)) simple_on ts (and_then (expect is_print_word ts) (reading.after_print r n))
   print_lead_law n some ts =

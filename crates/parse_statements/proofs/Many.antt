@@ -1,12 +1,12 @@
 -- The law of items one after the other.
-use Rattle.std.proofs.Common.{◌≡◌, ℕ, ◌+◌, ◌≤◌, Bool, true, false, List, [], ◌∷◌, ◌++◌, length, refl, sym, ◌∙◌, ap, subst, append_assoc, arith}
+use Rattle.std.proofs.Common.{◌≡◌, Bool, true, false, List, [], ◌∷◌, ◌++◌, length, refl, sym, ◌∙◌, ap, subst, append_assoc, arith}
 use Rattle.std.proofs.lemmas.List.{append-nil}
-use Rattle.parse_laws.specs.Parser.{Parser, and_then, sees, pure, repeat, ◌>>=◌}
+use Rattle.parse_laws.specs.Parser.{Parser, sees, pure, ◌>>=◌}
 use Rattle.parse_laws.specs.Language.{Language, Free, Law}
-use Rattle.parse_laws.specs.Forms.{Then, Made}
+use Rattle.parse_laws.specs.Forms.{Made}
 use Rattle.parse_laws.specs.Limits.{Limited}
 use Rattle.parse_laws.specs.Loops.{Turns, done, next, Repeated}
-use Rattle.parse_laws.proofs.Forms.{rename_law, wider_at}
+use Rattle.parse_laws.proofs.Forms.{wider_at}
 use Rattle.parse_laws.proofs.Limits.{same_law, join_law, made_limited}
 use Rattle.parse_laws.proofs.Lists.{FitEach}
 use Rattle.parse_laws.proofs.Repeats.{repeat_law}
@@ -74,7 +74,7 @@ module _ {K B : Type 0} (Item : Language K B) (fit : B → Type 0) where
         same_law (Turns Step []) (Many Item) (FitEach fit) cont many_up (λ a ys p. many_turns [] a ys p) ts _
         (repeat_law (λ _. starts) Step (λ _. contp) cont (FitEach fit) repeated (λ ys. item >>= λ y. pure (ys ++ y ∷ []))
         (λ v f us h. let l = made_limited Item contp (λ y. v ++ y ∷ []) fit (FitEach fit)
-            (record { grows = λ y g. added v y f g; shrinks = λ y g. (front v y g).1 }) us (item us) (item_law us h) in l)
+        (record { grows = λ y g. added v y f g; shrinks = λ y g. (front v y g).1 }) us (item us) (item_law us h) in l)
         (length ts) [] ts (omega arith) tt)
 
     -- one item or more; the first is read whatever begins it

@@ -1,5 +1,5 @@
 -- What the tokens that end and separate say of each other.
-use Rattle.std.proofs.Common.{◌≡◌, ℕ, ◌≤◌, nat_le, Bool, true, false, not, ◌||◌, List, [], ◌∷◌, Option, Some, None, refl, sym, ◌∙◌, ap, subst, codes}
+use Rattle.std.proofs.Common.{◌≡◌, ℕ, nat_le, Bool, true, false, not, ◌||◌, List, refl, sym, ap, subst, codes}
 use Rattle.std.proofs.lemmas.Bool.{leb-true, le-leb}
 use Rattle.std.proofs.Common.{arith}
 use Rattle.std.specs.Str.{bytes_eq}
@@ -7,11 +7,9 @@ use Rattle.std.proofs.lemmas.Slice.Eq.{bytes_eq-Decides}
 use Rattle.indent_lexer.specs.declared.token.Token.{Token}
 use Rattle.indent_lexer.specs.declared.token.TokenKind.{TokenKind}
 use Rattle.indent_lexer.specs.declared.token.TokenKind.TheVariants as kind
-use Rattle.grammar_rules.specs.Words.{is_op, is_comma, is_word, is_spelled, name_in, op_in, look_up}
-use Rattle.grammar_rules.specs.Levels.{updates}
-use Rattle.grammar_rules.specs.Simple.{joints}
+use Rattle.grammar_rules.specs.Words.{is_comma, is_spelled, name_in, op_in}
 use Rattle.parse_expressions.specs.Forms.{carried_by, opened_by}
-use Rattle.parse_expressions.proofs.Tokens.{op_kind, look_up_passes}
+use Rattle.parse_expressions.proofs.Tokens.{op_kind}
 use Rattle.parse_statements.specs.Readers.{expr_on, postfix_on, starts_expr, starts_postfix}
 use Rattle.parse_statements.specs.Items.{closes_in, items_on}
 use Rattle.parse_statements.specs.Heads.{is_equals, is_print_word, ends_simple_in, simple_on, row_on}

@@ -1,6 +1,5 @@
 -- What stands in the brackets of `print(..)`, as the grammar writes it and as it is read, one item after the other.
-use Rattle.std.proofs.Common.{◌≡◌, ℕ, ◌+◌, ◌<◌, ◌≤◌, nat_lt, Bool, true, false, ◌&&◌, List, [], ◌∷◌, ◌++◌, length, refl, sym, ◌∙◌, ap, subst, append_assoc, ◌⊎◌, inl, inr, Option, Some, None, codes, arith}
-use Rattle.std.specs.Str.{bytes_eq}
+use Rattle.std.proofs.Common.{◌≡◌, ℕ, ◌+◌, ◌<◌, ◌≤◌, true, false, List, [], ◌∷◌, ◌++◌, length, refl, sym, ◌∙◌, ap, subst, append_assoc, inl, inr, Option, Some, codes, arith}
 use Rattle.std.proofs.lemmas.Slice.Eq.{bytes_eq-Decides}
 use Rattle.std.proofs.lemmas.List.{append-nil, length-append}
 use Rattle.std.proofs.lemmas.Bool.{ltb-true, lt-ltb}
@@ -11,8 +10,8 @@ use Rattle.source_trees.specs.declared.expression.Expr.{Expr}
 use Rattle.source_trees.specs.declared.pipeline.PrintOptions.{PrintOptions}
 use Rattle.source_trees.specs.declared.pipeline.PrintOptions.TheVariants.{Neither, Sep, End, SepEnd, EndSep}
 use Rattle.source_trees.specs.declared.pipeline.Printed.{Printed}
-use Rattle.parse_laws.specs.Language.{Language, Law}
-use Rattle.parse_laws.specs.Forms.{Then, Is, Either}
+use Rattle.parse_laws.specs.Language.{Law}
+use Rattle.parse_laws.specs.Forms.{Is, Either}
 use Rattle.parse_laws.specs.Limits.{Limited}
 use Rattle.parse_laws.specs.Loops.{Turns, done, next}
 use Rattle.parse_laws.proofs.Limits.{same_law}

@@ -1,13 +1,11 @@
 -- The law of what stands in the brackets of `print(..)`.
-use Rattle.std.proofs.Common.{◌≡◌, ℕ, ◌+◌, ◌-◌, ◌<◌, ◌≤◌, max, nat_le, nat_lt, Bool, true, false, not, cond, ◌||◌, ◌&&◌, List, [], ◌∷◌, ◌++◌, length, map, refl, sym, ◌∙◌, ap, subst, append_assoc, ◌⊎◌, inl, inr, Option, Some, None, codes, arith}
+use Rattle.std.proofs.Common.{◌≡◌, ℕ, ◌≤◌, nat_le, Bool, true, false, not, cond, ◌||◌, ◌&&◌, List, [], ◌∷◌, ◌++◌, length, refl, sym, ◌∙◌, ap, subst, append_assoc, inl, inr, Option, Some, None, codes, arith}
 use Rattle.std.specs.Str.{bytes_eq}
 use Rattle.std.proofs.lemmas.Slice.Eq.{bytes_eq-Decides}
-use Rattle.std.proofs.lemmas.List.{append-nil, length-append}
-use Rattle.std.proofs.lemmas.Bool.{ltb-true, lt-ltb}
+use Rattle.std.proofs.lemmas.List.{append-nil}
 use Rattle.indent_lexer.specs.declared.token.Token.{Token}
 use Rattle.indent_lexer.specs.declared.token.TokenKind.{TokenKind}
 use Rattle.indent_lexer.specs.declared.token.TokenKind.TheVariants as kind
-use Rattle.source_trees.specs.declared.node.Node.{Node}
 use Rattle.source_trees.specs.declared.expression.Expr.{Expr}
 use Rattle.source_trees.specs.declared.expression.Expr.TheVariants as e
 use Rattle.source_trees.specs.declared.pipeline.PrintOptions.{PrintOptions}
@@ -15,34 +13,31 @@ use Rattle.source_trees.specs.declared.pipeline.PrintOptions.TheVariants.{Neithe
 use Rattle.source_trees.specs.declared.pipeline.Printed.{Printed}
 use Rattle.source_trees.specs.declared.statement.Target.{Target}
 use Rattle.source_trees.specs.declared.statement.Target.TheVariants as target
-use Rattle.source_trees.specs.Heights.{highest, height_of_expr, height_of_printed}
-use Rattle.parse_laws.specs.Parser.{Outcome, Parser, and_then, sees, pure, choose, in_table, has, repeat, expect, take_by, ◌>>=◌}
+use Rattle.parse_laws.specs.Parser.{and_then, sees, pure, choose, expect, take_by, ◌>>=◌}
 use Rattle.parse_laws.specs.Language.{Language, Free, Viable, Law}
 use Rattle.parse_laws.specs.Forms.{Then, Made, Is, Opens, Picks, Either, never}
-use Rattle.parse_laws.specs.Limits.{Limited, Joins, Carries, Nothing}
+use Rattle.parse_laws.specs.Limits.{Limited, Joins}
 use Rattle.parse_laws.specs.Loops.{Turns, done, next, Repeated}
 use Rattle.parse_laws.proofs.Forms.{wider_at, free_never}
-use Rattle.parse_laws.proofs.Limits.{same_law, join_law, nothing_law, made_limited, open_limited, take_limited, either_law, optional_law, pure_limited}
+use Rattle.parse_laws.proofs.Limits.{same_law, join_law, nothing_law, made_limited, open_limited, take_limited, optional_law}
 use Rattle.parse_laws.proofs.Lists.{FitEach}
 use Rattle.parse_laws.proofs.Repeats.{repeat_law}
 use Rattle.parse_laws.proofs.Steps.{wider_law}
 use Rattle.grammar_rules.specs.Expressions.{IsExpr}
-use Rattle.grammar_rules.specs.Simple.{IsValues, last, another, IsOption, option, IsOptions, sep, end_text, sep_end, end_sep, IsPrinted, nothing, values_alone, options_alone, both}
-use Rattle.grammar_rules.specs.Words.{is_comma, is_op, is_word, is_spelled, name_of, name_in, op_in, node_at, most_items}
+use Rattle.grammar_rules.specs.Words.{is_comma, is_spelled, name_of, op_in, node_at}
 use Rattle.parse_expressions.specs.Forms.{Low, carried_by, opened_by}
 use Rattle.parse_expressions.specs.declared.form.Form.TheVariants as form
-use Rattle.parse_expressions.proofs.Heights.{height-Name}
 use Rattle.parse_expressions.proofs.Least.{least}
-use Rattle.parse_expressions.proofs.Lows.{highest_up, highest_down, highest-append, positive, x_low}
+use Rattle.parse_expressions.proofs.Lows.{positive, x_low}
 use Rattle.parse_expressions.proofs.Opens.{sample, x_token, x_tree, op_token}
 use Rattle.parse_expressions.proofs.Tokens.{op_kind, name_kind}
-use Rattle.parse_statements.specs.Targets.{target_of, is_pointed}
+use Rattle.parse_statements.specs.Targets.{target_of}
 use Rattle.parse_statements.specs.Readers.{Readers, Exact, starts_expr, expr_on, has_room}
 use Rattle.parse_statements.specs.Heads.{is_equals}
 use Rattle.parse_statements.specs.Prints as reading
 use Rattle.parse_statements.specs.Prints.{option_after, option_of_name, option_at, option_of_target, option_by, is_neither, is_whole, takes_one, with_value, with_options, SetTo, PrintItem, is_bracket_end, printed_on, print_item_on}
-use Rattle.parse_statements.proofs.Marks.{either_word, one_word, not_false, equals_expr, comma_ends}
-use Rattle.parse_statements.proofs.States.{and_both, both_true, some_same}
+use Rattle.parse_statements.proofs.Marks.{either_word, one_word, not_false, equals_expr}
+use Rattle.parse_statements.proofs.States.{and_both, some_same}
 use Rattle.parse_statements.proofs.Targets.{target_height, named_expr, name_expr, name_target}
 
 -- ---- heights
@@ -403,7 +398,7 @@ module _ (r : Readers) (exact : Exact r) where
             (join_law (Picks (option_at p.options)) never (λ f. SetTo p (Some f)) print_item_on Any (LowPrinted n) (picked_joins n (some h) p low) ts
             (take_by (option_at p.options) ts) (take_limited (option_at p.options) Any (λ f. tt) never ts) (λ f. reading.set_to r n p (Some f))
             (λ used f us g l e. set_law n (some h) p low (Some f)
-                (λ f2 k. let P : (Expr → PrintOptions) → Type 0 = λ z. Keeps n z in subst P (some_same _ _ k) (at_keeps n p low g.0 f g.2)) us))
+            (λ f2 k. let P : (Expr → PrintOptions) → Type 0 = λ z. Keeps n z in subst P (some_same _ _ k) (at_keeps n p low g.0 f g.2)) us))
       ] in
       go (takes_one p) refl
 
@@ -460,7 +455,7 @@ module _ (r : Readers) (exact : Exact r) where
   more_law n some p low ts =
       repeat_law goes_on Step (λ p. print_item_on) printed_on (LowPrinted n) (repeated n) (λ q. expect is_comma >>= λ _. reading.print_item r n q)
       (λ q f us h. open_limited is_comma (λ _. PrintItem q) (LowPrinted n) print_item_on (λ t i. item_some n some q (goes_false (is_whole q.options) us h) f) us (λ _. reading.print_item r n q)
-          (λ t vs i e. item_law n q f (λ k. some) vs))
+      (λ t vs i e. item_law n q f (λ k. some) vs))
       (length ts) p ts (omega arith) low
 
   turns_apart : (p : Printed) (c : List Token) (q : Printed) (s : List Token) → Turns Step p c q → Free printed_on s → Free print_item_on (c ++ s)

@@ -1,5 +1,5 @@
 -- The law of items with commas before `=`, and of the end of the statement that they begin.
-use Rattle.std.proofs.Common.{◌≡◌, ℕ, ◌+◌, ◌-◌, ◌<◌, ◌≤◌, max, nat_le, Bool, true, false, List, [], ◌∷◌, ◌++◌, map, refl, sym, ◌∙◌, ap, subst, ◌⊎◌, inl, inr, Option, Some, None, codes, arith}
+use Rattle.std.proofs.Common.{◌≡◌, ℕ, ◌+◌, ◌-◌, ◌≤◌, max, nat_le, Bool, true, false, List, [], ◌∷◌, ◌++◌, map, refl, sym, ◌∙◌, ap, subst, inl, inr, Option, Some, None, codes, arith}
 use Rattle.std.proofs.lemmas.Bool.{leb-true, le-leb}
 use Rattle.indent_lexer.specs.declared.token.Token.{Token}
 use Rattle.source_trees.specs.declared.expression.Commas.TheVariants.{Bare}
@@ -10,7 +10,7 @@ use Rattle.source_trees.specs.declared.statement.Stmt.TheVariants as stmt
 use Rattle.source_trees.specs.declared.statement.Target.{Target}
 use Rattle.source_trees.specs.declared.statement.Targets.{Targets}
 use Rattle.source_trees.specs.declared.statement.Targets.TheVariants as targets
-use Rattle.source_trees.specs.Heights.{highest, height_of_expr, height_of_target, height_of_targets, height_of_stmt}
+use Rattle.source_trees.specs.Heights.{highest, height_of_expr, height_of_stmt}
 use Rattle.parse_laws.specs.Parser.{sees, within, in_table}
 use Rattle.parse_laws.specs.Language.{Language, Free, Viable, Law}
 use Rattle.parse_laws.specs.Forms.{Then}
@@ -33,7 +33,7 @@ use Rattle.parse_statements.specs.Heads.{is_equals, all_pointed, is_value, may_f
 use Rattle.parse_statements.specs.Forms.{IsHead, AssignTo, RowEnd, RowTail}
 use Rattle.parse_statements.proofs.Commas.{add, rows_law, row_first}
 use Rattle.parse_statements.proofs.Heads.{HeadAfter, head_given, head_item_law, assign_height, evaluated_height, least_items, row_end_law}
-use Rattle.parse_statements.proofs.Marks.{simple_row, equals_row, comma_simple}
+use Rattle.parse_statements.proofs.Marks.{simple_row, equals_row}
 use Rattle.parse_statements.proofs.States.{Fine, fine_snoc, targets_height, some_same}
 
 abbrev Items : Expr → Language Token (RowState (List Expr))

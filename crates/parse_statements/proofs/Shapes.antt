@@ -1,5 +1,5 @@
 -- Simple statements that begin with an expression or a target, as the grammar writes them and as they are read.
-use Rattle.std.proofs.Common.{◌≡◌, ℕ, ◌+◌, ◌≤◌, nat_le, nat_lt, Bool, true, false, not, ◌||◌, ◌&&◌, List, [], ◌∷◌, ◌++◌, length, map, refl, sym, ◌∙◌, ap, subst, append_assoc, ◌⊎◌, inl, inr, Option, Some, None, codes, arith}
+use Rattle.std.proofs.Common.{◌≡◌, ℕ, ◌+◌, ◌≤◌, nat_le, Bool, true, false, not, ◌||◌, List, [], ◌∷◌, ◌++◌, length, refl, sym, ◌∙◌, ap, subst, append_assoc, ◌⊎◌, inl, inr, Option, Some, None, arith}
 use Rattle.std.specs.List.{list_any}
 use Rattle.std.proofs.lemmas.List.{append-nil, length-append}
 use Rattle.std.proofs.lemmas.Bool.{leb-true, le-leb, lt-ltb}
@@ -10,7 +10,6 @@ use Rattle.source_trees.specs.declared.expression.Expr.TheVariants as e
 use Rattle.source_trees.specs.declared.item.Annotation.{Annotation}
 use Rattle.source_trees.specs.declared.node.Name.{Name}
 use Rattle.source_trees.specs.declared.node.Node.{Node}
-use Rattle.source_trees.specs.declared.pipeline.Stage.{Stage}
 use Rattle.source_trees.specs.declared.statement.Stmt.{Stmt}
 use Rattle.source_trees.specs.declared.statement.Stmt.TheVariants as stmt
 use Rattle.source_trees.specs.declared.statement.Target.{Target}
@@ -26,18 +25,18 @@ use Rattle.grammar_rules.specs.Expressions as e2
 use Rattle.grammar_rules.specs.Simple as g2
 use Rattle.grammar_rules.specs.Simple.{IsItems, item, tuple, IsTarget, name, IsTargets, one, several, node_of_target, node_of_targets, IsSimple, IsStages}
 use Rattle.grammar_rules.specs.Types.{IsType}
-use Rattle.grammar_rules.specs.Words.{is_op, is_comma, name_of, name_at, named_by, node_at, most_items}
+use Rattle.grammar_rules.specs.Words.{is_comma, name_of, name_at, named_by, node_at, most_items}
 use Rattle.parse_expressions.proofs.Opens.{name_spelling}
 use Rattle.parse_statements.specs.Targets.{both, target_of, targets_of, is_pointed, is_print, IsPointed, IsPrintName}
 use Rattle.parse_statements.specs.Readers.{has_room}
-use Rattle.parse_statements.specs.Heads.{is_equals, all_pointed, no_print, takes_value, is_value, may_follow, one_target, several_targets, evaluated}
-use Rattle.parse_statements.specs.Forms.{IsHead, Sure, AssignTo, UpdateTo, RowEnd, RowTail}
-use Rattle.parse_statements.specs.Simple.{Follow, Comma, Equals, Augmented, Piped, Colon, Over, annotation_of, ValueOf, AnnotateAs, piped_to, PipeTo, TailOf, HeadTail, is_colon}
-use Rattle.parse_statements.proofs.Commas.{GrowsBy, ListedBy, Tail, row_first, followed, list_parts}
-use Rattle.parse_statements.proofs.Heads.{HeadAfter, head_expr}
+use Rattle.parse_statements.specs.Heads.{is_equals, all_pointed, no_print, may_follow, one_target, several_targets, evaluated}
+use Rattle.parse_statements.specs.Forms.{IsHead, AssignTo, UpdateTo, RowEnd, RowTail}
+use Rattle.parse_statements.specs.Simple.{Follow, Comma, Equals, Augmented, Piped, Colon, Over, annotation_of, ValueOf, AnnotateAs, TailOf, HeadTail, is_colon}
+use Rattle.parse_statements.proofs.Commas.{GrowsBy, Tail, row_first, followed, list_parts}
+use Rattle.parse_statements.proofs.Heads.{head_expr}
 use Rattle.parse_statements.proofs.Items.{row_list, list_row}
 use Rattle.parse_statements.proofs.States.{may_value, may_target, and_both, both_true, pointed_snoc, print_snoc, some_same}
-use Rattle.parse_statements.proofs.Targets.{target_expr, postfix_target, expr_postfix, postfix_expr, print_target, expr_not_print, named_expr, name_expr, name_target, print_name_print}
+use Rattle.parse_statements.proofs.Targets.{target_expr, postfix_target, expr_postfix, postfix_expr, print_target, expr_not_print}
 
 abbrev pub Headed : Language Token Stmt
 Headed = Then IsHead HeadTail

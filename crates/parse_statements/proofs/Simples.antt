@@ -1,32 +1,26 @@
 -- The law of simple statements.
-use Rattle.std.proofs.Common.{◌≡◌, ℕ, ◌+◌, ◌≤◌, nat_le, Bool, true, false, not, cond, List, [], ◌∷◌, ◌++◌, refl, sym, ◌∙◌, ap, subst, append_assoc, ◌⊎◌, inl, inr, Option, Some, None, codes, arith}
+use Rattle.std.proofs.Common.{◌≡◌, ℕ, ◌≤◌, nat_le, Bool, true, false, not, cond, List, [], ◌∷◌, ◌++◌, refl, sym, ◌∙◌, ap, subst, append_assoc, inl, inr, Option, Some, None, codes}
 use Rattle.std.specs.Str.{bytes_eq}
 use Rattle.std.proofs.lemmas.List.{append-nil}
 use Rattle.indent_lexer.specs.declared.token.Token.{Token}
 use Rattle.indent_lexer.specs.declared.token.TokenKind.{TokenKind}
 use Rattle.indent_lexer.specs.declared.token.TokenKind.TheVariants as kind
 use Rattle.source_trees.specs.declared.expression.Expr.{Expr}
-use Rattle.source_trees.specs.declared.item.Annotation.{Annotation}
-use Rattle.source_trees.specs.declared.node.Name.{Name}
 use Rattle.source_trees.specs.declared.pipeline.Printed.{Printed}
 use Rattle.source_trees.specs.declared.statement.Stmt.{Stmt}
 use Rattle.source_trees.specs.declared.statement.Stmt.TheVariants as stmt
 use Rattle.parse_laws.specs.Parser.{sees, class_of}
-use Rattle.parse_laws.specs.Language.{Language, Free, Law}
-use Rattle.parse_laws.specs.Forms.{Then}
+use Rattle.parse_laws.specs.Language.{Law}
 use Rattle.parse_laws.specs.Limits.{Limited}
 use Rattle.parse_laws.proofs.Sorts.{sort_limited}
-use Rattle.grammar_rules.specs.Expressions.{node_of, IsExpr}
 use Rattle.grammar_rules.specs.Simple as g
 use Rattle.grammar_rules.specs.Simple.{IsItems, IsPrint, printed, IsSimple, node_of_target, node_of_targets}
-use Rattle.grammar_rules.specs.Types.{IsType}
-use Rattle.grammar_rules.specs.Words.{is_keyword, is_word, is_spelled, name_in, name_at, node_at}
+use Rattle.grammar_rules.specs.Words.{is_spelled, name_in, node_at}
 use Rattle.parse_expressions.specs.Forms.{opened_by, opening_words, row_of}
 use Rattle.parse_expressions.proofs.Tokens.{keyword_kind}
-use Rattle.parse_statements.specs.Targets.{target_of, IsPrintName}
 use Rattle.parse_statements.specs.Readers.{Readers, Exact, LowStmt, starts_expr}
-use Rattle.parse_statements.specs.Heads.{is_print_word, simple_on, one_target}
-use Rattle.parse_statements.specs.Forms.{IsHead, UpdateTo}
+use Rattle.parse_statements.specs.Heads.{is_print_word, simple_on}
+use Rattle.parse_statements.specs.Forms.{UpdateTo}
 use Rattle.parse_statements.specs.Simple as reading
 use Rattle.parse_statements.specs.Simple.{Equals, Augmented, Piped, Colon, HeadTail, TailOf, annotation_of, ValueOf, Lead, Pass, Break, Continue, Return, Yield, Raise, Assert, Print, Value, lead_word, lead_in, lead_of, print_tree, LeadOf}
 use Rattle.parse_statements.proofs.Leads.{lead_law}
@@ -175,8 +169,7 @@ module _ (r : Readers) (exact : Exact r) where
       by_class Raise (t ∷ u ∷ []) _ s (ap lead_in (keyword_kind (codes "raise") t h))
       (t, u ∷ [], refl, h, record { first = u ∷ []; second = []; value = m; joined = refl; heads = (u, refl, k); tails = inr (refl, refl) })
   simple_lead _ _ s (g.raise_called t u m o c h k i j) =
-      by_class Raise (t ∷ u ∷ o ∷ c ∷ []) _ s (ap lead_in (keyword_kind (codes "raise") t h))
-      (
+      by_class Raise (t ∷ u ∷ o ∷ c ∷ []) _ s (ap lead_in (keyword_kind (codes "raise") t h)) (
         t,
         u ∷ o ∷ c ∷ [],
         refl,
@@ -184,8 +177,7 @@ module _ (r : Readers) (exact : Exact r) where
         record { first = u ∷ []; second = o ∷ c ∷ []; value = m; joined = refl; heads = (u, refl, k); tails = inl (o, c ∷ [], refl, i, ([], None, c, refl, inr (refl, refl), j, refl)) },
       )
   simple_lead _ _ s (g.raise_text t u m o a x c h k i p j) =
-      by_class Raise (t ∷ u ∷ o ∷ (a ++ c ∷ [])) _ s (ap lead_in (keyword_kind (codes "raise") t h))
-      (
+      by_class Raise (t ∷ u ∷ o ∷ (a ++ c ∷ [])) _ s (ap lead_in (keyword_kind (codes "raise") t h)) (
         t,
         u ∷ o ∷ (a ++ c ∷ []),
         refl,

@@ -1,7 +1,6 @@
 -- The law of the stages of a pipeline.
-use Rattle.std.proofs.Common.{◌≡◌, ℕ, ◌+◌, ◌<◌, ◌≤◌, max, nat_le, Bool, true, false, not, cond, ◌||◌, List, [], ◌∷◌, ◌++◌, map, refl, sym, ◌∙◌, ap, subst, append_assoc, ◌⊎◌, inl, inr, Option, Some, None, codes, arith}
+use Rattle.std.proofs.Common.{◌≡◌, ℕ, Bool, true, false, not, cond, List, [], ◌∷◌, ◌++◌, refl, sym, ◌∙◌, ap, subst, inl, inr, Option, Some, None, codes}
 use Rattle.std.specs.Str.{bytes_eq}
-use Rattle.std.proofs.lemmas.Slice.Eq.{bytes_eq-Decides}
 use Rattle.std.proofs.lemmas.List.{append-nil}
 use Rattle.indent_lexer.specs.declared.token.Token.{Token}
 use Rattle.indent_lexer.specs.declared.token.TokenKind.{TokenKind}
@@ -13,18 +12,17 @@ use Rattle.source_trees.specs.declared.pipeline.Stage.{Stage}
 use Rattle.source_trees.specs.declared.pipeline.StageForm.{StageForm}
 use Rattle.source_trees.specs.declared.pipeline.StageForm.TheVariants as form
 use Rattle.source_trees.specs.declared.pipeline.Printed.{Printed}
-use Rattle.parse_laws.specs.Parser.{Outcome, Parser, and_then, sees, pure, choose, expect, take_by, has, in_table, ◌>>=◌, ◌>>◌}
-use Rattle.parse_laws.specs.Language.{Language, Free, Viable, Law}
+use Rattle.parse_laws.specs.Parser.{Parser, and_then, sees, pure, choose, expect, take_by, has, in_table, ◌>>=◌, ◌>>◌}
+use Rattle.parse_laws.specs.Language.{Language, Viable, Law}
 use Rattle.parse_laws.specs.Forms.{Then, Made, Is, Opens, Closes, Picks, Either, never}
-use Rattle.parse_laws.specs.Limits.{Limited, Joins, Carries}
-use Rattle.parse_laws.proofs.Forms.{wider_at, free_never}
-use Rattle.parse_laws.proofs.Limits.{same_law, join_law, made_limited, open_limited, close_limited, optional_law, pure_limited, take_limited}
+use Rattle.parse_laws.specs.Limits.{Limited, Carries}
+use Rattle.parse_laws.proofs.Forms.{free_never}
+use Rattle.parse_laws.proofs.Limits.{same_law, join_law, made_limited, open_limited, close_limited, optional_law, take_limited}
 use Rattle.parse_laws.proofs.Lists.{FitEach}
 use Rattle.grammar_rules.specs.Simple.{IsPrint, printed, IsPrinted, nothing, IsStageForm, iter, name, call, print_alone, print_of, IsStages, last, another, joints}
-use Rattle.grammar_rules.specs.Words.{is_op, is_word, is_spelled, op_in, name_of, name_at, named_by, look_up, entry_of, node_at}
+use Rattle.grammar_rules.specs.Words.{is_word, is_spelled, op_in, name_of, name_at, named_by, look_up, entry_of, node_at}
 use Rattle.parse_expressions.specs.Forms.{Low}
 use Rattle.parse_expressions.proofs.Opens.{name_spelling, sample, op_token}
-use Rattle.parse_expressions.proofs.Tokens.{op_kind}
 use Rattle.parse_statements.specs.Readers.{Readers, Exact}
 use Rattle.parse_statements.specs.Many.{Many, none, more, OneOrMore}
 use Rattle.parse_statements.specs.Heads.{ends_simple_in, simple_on}
@@ -36,7 +34,7 @@ use Rattle.parse_statements.proofs.Arguments.{LowArgument, Read, arguments_read,
 use Rattle.parse_statements.proofs.Many.{Follows, one_or_more_law}
 use Rattle.parse_statements.proofs.Marks.{one_word, not_false}
 use Rattle.parse_statements.proofs.Prints.{LowPrinted}
-use Rattle.parse_statements.proofs.Printed.{printed_law, word_name, name_word}
+use Rattle.parse_statements.proofs.Printed.{printed_law, word_name}
 
 -- ---- limits of height
 
@@ -181,22 +179,20 @@ form_parts _ _ (iter t h) u a e =
     (codes "iter", ap name_of (sym same) ∙ word_name (codes "iter") t h, inr (rest, refl))
 form_parts _ _ (name t s k l m) u a e =
     let same : t ≡ u = cc in
-    let rest : a ≡ [] = cc in
-    (
+    let rest : a ≡ [] = cc in (
       s,
       ap name_of (sym same) ∙ k,
       as_chosen false s (sym (spelled (codes "print") t s k) ∙ m) a (form.Call s [] [])
-      (inr (rest, ap (λ z. cond z form.Iter (form.Call s [] [])) (sym (sym (spelled (codes "iter") t s k) ∙ l)))),
+          (inr (rest, ap (λ z. cond z form.Iter (form.Call s [] [])) (sym (sym (spelled (codes "iter") t s k) ∙ l)))),
     )
 form_parts _ _ (call t s o c before after d k l m p q) u a e =
     let same : t ≡ u = cc in
     let rest : a ≡ o ∷ (c ++ d ∷ []) = cc in
-    let g = arguments_read c before after p in
-    (
+    let g = arguments_read c before after p in (
       s,
       ap name_of (sym same) ∙ k,
       as_chosen false s (sym (spelled (codes "print") t s k) ∙ l) a (form.Call s before after)
-      (inl (o, c ++ d ∷ [], rest, m, (c, g.0, d, refl, g.1, q, ap (λ z. form.Call s z.0 z.1) (sym g.2)))),
+          (inl (o, c ++ d ∷ [], rest, m, (c, g.0, d, refl, g.1, q, ap (λ z. form.Call s z.0 z.1) (sym g.2)))),
     )
 form_parts _ _ (print_alone t h) u a e =
     let same : t ≡ u = cc in
@@ -268,8 +264,7 @@ stage_parts a s g =
     let n = name_spelling u k.value (name_of u) refl k.heads.2 in
     let m = k.tails in
     let same : k.value.spelling ≡ n.0 = ap (λ z. z.spelling) n.2 in
-    let P : List ℕ → Type 0 = λ z. FormAfter z k.second m.0 in
-    (
+    let P : List ℕ → Type 0 = λ z. FormAfter z k.second m.0 in (
       t,
       g.value,
       u,

@@ -1,8 +1,8 @@
 -- What items stand before `=`: they are a tuple so far, or they are all targets, and the next item keeps one of these.
-use Rattle.std.proofs.Common.{◌≡◌, ℕ, ◌+◌, ◌≤◌, max, nat_le, nat_lt, Bool, true, false, not, ◌||◌, ◌&&◌, List, [], ◌∷◌, ◌++◌, length, map, refl, sym, ◌∙◌, ap, subst, ◌⊎◌, inl, inr, Option, Some, None, arith}
+use Rattle.std.proofs.Common.{◌≡◌, ◌+◌, max, nat_le, Bool, true, false, not, ◌||◌, ◌&&◌, List, [], ◌∷◌, ◌++◌, length, map, refl, sym, ◌∙◌, ap, ◌⊎◌, inl, inr, Option, Some, None, arith}
 use Rattle.std.specs.List.{list_any}
 use Rattle.std.proofs.lemmas.List.{length-append}
-use Rattle.std.proofs.lemmas.Bool.{ltb-true, le-leb, leb-true}
+use Rattle.std.proofs.lemmas.Bool.{ltb-true, le-leb}
 use Rattle.source_trees.specs.declared.expression.Expr.{Expr}
 use Rattle.source_trees.specs.declared.statement.Target.{Target}
 use Rattle.source_trees.specs.Heights.{highest, height_of_expr, height_of_target}
@@ -11,7 +11,6 @@ use Rattle.grammar_rules.specs.Words.{most_items}
 use Rattle.parse_statements.specs.Targets.{both, target_of, targets_of, is_pointed, is_print}
 use Rattle.parse_statements.specs.Readers.{has_room}
 use Rattle.parse_statements.specs.Heads.{all_pointed, no_print, takes_value, is_value, may_follow}
-use Rattle.parse_statements.proofs.Commas.{GrowsBy}
 use Rattle.parse_statements.proofs.Targets.{target_height}
 
 -- ---- the test of the next item

@@ -1,18 +1,14 @@
 -- The laws of what follows an expression or a target at the beginning of a statement.
-use Rattle.std.proofs.Common.{◌≡◌, ℕ, ◌+◌, ◌-◌, ◌<◌, ◌≤◌, max, nat_le, Bool, true, false, not, cond, ◌||◌, List, [], ◌∷◌, ◌++◌, map, refl, sym, ◌∙◌, ap, subst, append_assoc, ◌⊎◌, inl, inr, Option, Some, None, codes, arith}
+use Rattle.std.proofs.Common.{◌≡◌, ℕ, ◌+◌, ◌-◌, ◌<◌, ◌≤◌, max, Bool, true, false, not, cond, List, [], ◌∷◌, ◌++◌, map, refl, sym, ◌∙◌, ap, subst, inl, inr, Option, Some, None, codes, arith}
 use Rattle.std.specs.Str.{bytes_eq}
-use Rattle.std.proofs.lemmas.List.{append-nil}
-use Rattle.std.proofs.lemmas.Bool.{leb-true, le-leb}
 use Rattle.indent_lexer.specs.declared.token.Token.{Token}
 use Rattle.indent_lexer.specs.declared.token.TokenKind.{TokenKind}
 use Rattle.indent_lexer.specs.declared.token.TokenKind.TheVariants as kind
 use Rattle.source_trees.specs.declared.expression.Expr.{Expr}
-use Rattle.source_trees.specs.declared.expression.Expr.TheVariants as e
 use Rattle.source_trees.specs.declared.item.Annotation.{Annotation}
 use Rattle.source_trees.specs.declared.item.Annotation.TheVariants as annotation
 use Rattle.source_trees.specs.declared.node.Node.{Node}
 use Rattle.source_trees.specs.declared.operator.BinaryOp.{BinaryOp}
-use Rattle.source_trees.specs.declared.operator.BinaryOp.TheVariants as binary
 use Rattle.source_trees.specs.declared.pipeline.Joint.{Joint}
 use Rattle.source_trees.specs.declared.pipeline.PrintOptions.{PrintOptions}
 use Rattle.source_trees.specs.declared.pipeline.PrintOptions.TheVariants.{Neither, Sep, End, SepEnd, EndSep}
@@ -28,11 +24,11 @@ use Rattle.source_trees.specs.declared.statement.Targets.{Targets}
 use Rattle.source_trees.specs.Heights.{highest, height_of_expr, height_of_annotation, height_of_target, height_of_stage, height_of_printed, height_of_stmt, over_parts}
 use Rattle.source_trees.specs.declared.item.Annotation.{Annotation-F, fold-roll-Annotation, fold_out-Annotation}
 use Rattle.source_trees.specs.Parts.{of_print_options, of_stage_form, of_annotation, annotation_step, of_optional_expr}
-use Rattle.parse_laws.specs.Parser.{Outcome, Stopped, Parser, and_then, sees, pure, choose, in_table, expect, take_by, has, class_of, ◌>>=◌}
+use Rattle.parse_laws.specs.Parser.{Stopped, and_then, sees, pure, in_table, expect, take_by, class_of, ◌>>=◌}
 use Rattle.parse_laws.specs.declared.cause.Cause.TheVariants.{Unexpected}
-use Rattle.parse_laws.specs.Language.{Language, Free, Viable, Law}
-use Rattle.parse_laws.specs.Forms.{Then, Made, Is, Opens, Picks, Either, never}
-use Rattle.parse_laws.specs.Limits.{Limited, Joins, Nothing}
+use Rattle.parse_laws.specs.Language.{Language, Free, Law}
+use Rattle.parse_laws.specs.Forms.{Then, Made, Opens, Picks, never}
+use Rattle.parse_laws.specs.Limits.{Limited, Nothing}
 use Rattle.parse_laws.proofs.Forms.{wider_at, free_never}
 use Rattle.parse_laws.proofs.Limits.{same_law, join_law, made_limited, open_limited, optional_law, nothing_law, take_limited}
 use Rattle.parse_laws.proofs.Lists.{FitEach}
@@ -42,22 +38,22 @@ use Rattle.grammar_rules.specs.Levels.{updates}
 use Rattle.grammar_rules.specs.Simple.{node_of_target, IsItems, IsStages, last, another, joints}
 use Rattle.grammar_rules.specs.Types.{IsType}
 use Rattle.grammar_rules.specs.Types as types
-use Rattle.grammar_rules.specs.Words.{is_comma, is_op, look_up, entry, op_in, is_spelled, node_at}
+use Rattle.grammar_rules.specs.Words.{is_comma, look_up, entry, op_in, is_spelled, node_at}
 use Rattle.parse_expressions.specs.Forms.{Low}
 use Rattle.parse_expressions.proofs.Heights.{height-Name}
-use Rattle.parse_expressions.proofs.Lows.{highest_up, highest_down, highest-append, positive, x_low}
-use Rattle.parse_expressions.proofs.Opens.{sample, x_token, x_tree, op_token}
+use Rattle.parse_expressions.proofs.Lows.{highest_up, highest_down, highest-append}
+use Rattle.parse_expressions.proofs.Opens.{sample, x_token, x_tree}
 use Rattle.parse_expressions.proofs.Tokens.{op_kind, look_up_passes}
 use Rattle.parse_statements.specs.Targets.{target_of, is_print}
 use Rattle.parse_statements.specs.Readers.{Readers, Exact, LowStmt, LowType, type_on}
 use Rattle.parse_statements.specs.Items.{items}
 use Rattle.parse_statements.specs.Heads as heads
 use Rattle.parse_statements.specs.Heads.{is_equals, ends_simple_in, simple_on, one_target, evaluated}
-use Rattle.parse_statements.specs.Forms.{Sure, AssignTo, UpdateTo, RowTail}
+use Rattle.parse_statements.specs.Forms.{AssignTo, UpdateTo}
 use Rattle.parse_statements.specs.Stages.{stages}
 use Rattle.parse_statements.specs.Simple as reading
 use Rattle.parse_statements.specs.Simple.{Follow, Comma, Equals, Augmented, Piped, Colon, Over, follow_op, follow_in, follow_of, annotation_of, ValueOf, AnnotateAs, piped_to, PipeTo, TailOf, HeadTail, is_colon}
-use Rattle.parse_statements.proofs.Heads.{LowTargets, least_items, value_law, assign_law, evaluate_law, sure_law}
+use Rattle.parse_statements.proofs.Heads.{LowTargets, least_items, value_law, assign_law, evaluate_law}
 use Rattle.parse_statements.proofs.Heights.{stmt_Update, stmt_Annotated, stmt_Pipeline}
 use Rattle.parse_statements.proofs.Marks.{one_word, not_false, equals_simple}
 use Rattle.parse_statements.proofs.Prints.{LowPrinted, LowOptions}
@@ -286,8 +282,8 @@ module _ (r : Readers) (exact : Exact r) where
         shrinks = λ a o g c v h f. tt;
       }) ts (take_by (look_up updates) ts) (take_limited (look_up updates) Any (λ o. tt) never ts) (λ o. items r (n - 1) >>= λ y. pure (stmt.Update (node_of_target w) w o y))
       (λ used o us g f e. made_limited IsItems simple_on (λ y. stmt.Update (node_of_target w) w o y) (Low (n - 1)) (LowStmt n)
-          (record { grows = λ y k. let i = update_height w o y in omega arith; shrinks = λ y k. let i = update_height w o y in omega arith })
-          us (items r (n - 1) us) (value_law r exact (n - 1) us))
+      (record { grows = λ y k. let i = update_height w o y in omega arith; shrinks = λ y k. let i = update_height w o y in omega arith })
+      us (items r (n - 1) us) (value_law r exact (n - 1) us))
 
   pipe_height : (x : Expr) (ss : List Stage) → height_of_stmt (piped_to x ss) ≡ max (height_of_expr x) (highest (map height_of_stage ss)) + 1
   pipe_height x ss = stmt_Pipeline over_parts (node_of x) x ss
@@ -320,11 +316,11 @@ module _ (r : Readers) (exact : Exact r) where
       optional_law (Opens is_equals (λ _. Made IsItems (λ y. annotation_of m s t (Some y)))) (annotation_of m s t None) (LowStmt n) (let k = note_height m s t None in omega arith) simple_on is_equals
       (λ a w us g. ap (λ z. sees is_equals (z ++ us)) g.2 ∙ g.3) equals_simple (λ us. and_then (expect is_equals us) (λ _. items r (n - 1) >>= λ y. pure (annotation_of m s t (Some y)))) ts
       (λ h. open_limited is_equals (λ _. Made IsItems (λ y. annotation_of m s t (Some y))) (LowStmt n) simple_on
-          (λ u i. (x_token ∷ [], annotation_of m s t (Some x_tree), ((x_tree, least_items, refl), let k = note_height m s t (Some x_tree) in let j = height-Name (node_at x_token) (codes "x") in omega arith)))
-          ts (λ _. items r (n - 1) >>= λ y. pure (annotation_of m s t (Some y)))
-          (λ u us i k. made_limited IsItems simple_on (λ y. annotation_of m s t (Some y)) (Low (n - 1)) (LowStmt n)
-          (record { grows = λ y f. let j = note_height m s t (Some y) in omega arith; shrinks = λ y f. let j = note_height m s t (Some y) in omega arith })
-          us (items r (n - 1) us) (value_law r exact (n - 1) us)))
+      (λ u i. (x_token ∷ [], annotation_of m s t (Some x_tree), ((x_tree, least_items, refl), let k = note_height m s t (Some x_tree) in let j = height-Name (node_at x_token) (codes "x") in omega arith)))
+      ts (λ _. items r (n - 1) >>= λ y. pure (annotation_of m s t (Some y)))
+      (λ u us i k. made_limited IsItems simple_on (λ y. annotation_of m s t (Some y)) (Low (n - 1)) (LowStmt n)
+      (record { grows = λ y f. let j = note_height m s t (Some y) in omega arith; shrinks = λ y f. let j = note_height m s t (Some y) in omega arith })
+      us (items r (n - 1) us) (value_law r exact (n - 1) us)))
 
   value_apart : (m : Node) (s : List ℕ) (t : Annotation) (c : List Token) (w : Stmt) (us : List Token) → ValueOf m s t c w → Free simple_on us → Free type_on (c ++ us)
   value_apart m s t c w us (inl g) free = ap (λ z. sees type_on (z ++ us)) g.2 ∙ equals_type g.0 g.3

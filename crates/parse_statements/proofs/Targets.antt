@@ -1,6 +1,6 @@
 -- What an expression that is a target is spelled with: it comes from the tightest form, since every looser one makes a
 -- node of another kind.
-use Rattle.std.proofs.Common.{◌≡◌, ℕ, ℤ, ◌+◌, ◌≤◌, max, Bool, true, false, List, [], ◌∷◌, ◌++◌, map, refl, sym, ◌∙◌, ap, subst, ◌⊎◌, inl, inr, Option, Some, None, codes, arith}
+use Rattle.std.proofs.Common.{◌≡◌, ℕ, ℤ, Bool, true, false, List, [], ◌∷◌, ◌++◌, refl, sym, ◌∙◌, ap, subst, ◌⊎◌, inl, inr, Option, Some, codes}
 use Rattle.std.specs.Str.{bytes_eq}
 use Rattle.std.proofs.lemmas.Slice.Eq.{bytes_eq-Decides}
 use Rattle.indent_lexer.specs.declared.token.Token.{Token}
@@ -19,7 +19,7 @@ use Rattle.source_trees.specs.declared.statement.LoopNames.{LoopNames}
 use Rattle.source_trees.specs.declared.statement.Target.{Target}
 use Rattle.source_trees.specs.declared.statement.Target.TheVariants as target
 use Rattle.source_trees.specs.Heights.{height_of_expr, height_of_target, over_parts}
-use Rattle.source_trees.specs.declared.expression.Expr.TheFolds.{map-Expr, fold_out-Expr, fold-Expr, fold-Comparison}
+use Rattle.source_trees.specs.declared.expression.Expr.TheFolds.{map-Expr, fold_out-Expr}
 use Rattle.source_trees.specs.Parts.{of_expr, of_comparison, expr_step, comparison_step}
 use Rattle.parse_laws.specs.Parser.{in_table}
 use Rattle.grammar_rules.specs.declared.level.Junction.{Junction}
@@ -29,7 +29,7 @@ use Rattle.grammar_rules.specs.declared.level.Rank.TheVariants as rank
 use Rattle.grammar_rules.specs.Levels.{joined}
 use Rattle.grammar_rules.specs.Expressions as g
 use Rattle.grammar_rules.specs.Expressions.{node_of, IsExpr, IsJoined, IsJoint, IsNot, IsCompared, IsRanked, IsOperand, IsFactor, IsPostfix, IsAtom}
-use Rattle.grammar_rules.specs.Simple.{IsTarget, name, index, field, node_of_target}
+use Rattle.grammar_rules.specs.Simple.{IsTarget, name, index, field}
 use Rattle.grammar_rules.specs.Words.{name_in, name_of, is_word, is_spelled, node_at}
 use Rattle.parse_statements.specs.Targets.{target_in, target_of, is_pointed, print_in, is_print, IsPointed, IsPrintName}
 

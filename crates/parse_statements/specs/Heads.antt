@@ -1,7 +1,7 @@
 -- How a simple statement is read that begins with an expression or a target: what stands before the first `=`, `:`, `|>` or
 -- the statement's end is read as expressions, and the token behind them tells what they are. The name `print`, and a 256th
 -- item, can only be targets.
-use Rattle.std.specs.Prelude.{◌≡◌, ℕ, ◌+◌, ◌-◌, Bool, true, false, not, cond, ◌||◌, ◌&&◌, nat_le, if◌then◌else◌, List, [], ◌∷◌, ◌++◌, length, Option, Some, None, codes}
+use Rattle.std.specs.Prelude.{ℕ, ◌-◌, Bool, true, false, not, cond, ◌||◌, ◌&&◌, nat_le, List, [], ◌∷◌, ◌++◌, length, Option, Some, None, codes}
 use Rattle.std.specs.List.{list_any}
 use Rattle.std.specs.Str.{bytes_eq}
 use Rattle.indent_lexer.specs.declared.token.Token.{Token}
@@ -10,22 +10,18 @@ use Rattle.indent_lexer.specs.declared.token.TokenKind.TheVariants as kind
 use Rattle.source_trees.specs.declared.expression.Commas.TheVariants.{Bare}
 use Rattle.source_trees.specs.declared.expression.Expr.{Expr}
 use Rattle.source_trees.specs.declared.expression.Expr.TheVariants as e
-use Rattle.source_trees.specs.declared.node.Node.{Node}
-use Rattle.source_trees.specs.declared.node.Name.{Name}
 use Rattle.source_trees.specs.declared.statement.Stmt.{Stmt}
 use Rattle.source_trees.specs.declared.statement.Stmt.TheVariants as stmt
 use Rattle.source_trees.specs.declared.statement.Target.{Target}
-use Rattle.source_trees.specs.declared.statement.Target.TheVariants as target
 use Rattle.source_trees.specs.declared.statement.Targets.{Targets}
 use Rattle.source_trees.specs.declared.statement.Targets.TheVariants as targets
-use Rattle.source_trees.specs.Heights.{height_of_expr}
-use Rattle.parse_laws.specs.Parser.{Parser, ◌>>=◌, ◌>>◌, pure, refuse, choose, within, expect, take_by, in_table, repeat, row_turn}
+use Rattle.parse_laws.specs.Parser.{Parser, ◌>>=◌, ◌>>◌, pure, refuse, choose, expect, take_by, in_table, repeat, row_turn}
 use Rattle.parse_laws.specs.Loops.{row_test}
 use Rattle.grammar_rules.specs.Expressions.{node_of}
 use Rattle.grammar_rules.specs.Levels.{updates}
-use Rattle.grammar_rules.specs.Simple.{node_of_target, node_of_targets, joints}
-use Rattle.grammar_rules.specs.Words.{is_op, is_word, is_comma, entry, look_up, node_at, most_items}
-use Rattle.parse_statements.specs.Targets.{target_of, targets_of, is_pointed, is_print}
+use Rattle.grammar_rules.specs.Simple.{node_of_target, node_of_targets}
+use Rattle.grammar_rules.specs.Words.{is_op, is_word, is_comma, look_up, node_at, most_items}
+use Rattle.parse_statements.specs.Targets.{targets_of, is_pointed, is_print}
 use Rattle.parse_statements.specs.Readers.{Readers, starts_expr, starts_postfix, has_room}
 use Rattle.parse_statements.specs.Items.{items}
 

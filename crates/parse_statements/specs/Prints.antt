@@ -1,6 +1,6 @@
 -- How the brackets of `print(..)` are read: values and options with commas between. An option begins as an expression does,
 -- and the `=` behind it tells it from one.
-use Rattle.std.specs.Prelude.{◌≡◌, ℕ, ◌≤◌, Bool, true, false, not, cond, ◌||◌, ◌&&◌, if◌then◌else◌, List, [], ◌∷◌, ◌++◌, length, Option, Some, None, codes, ◌⊎◌}
+use Rattle.std.specs.Prelude.{◌≡◌, ℕ, Bool, true, false, not, cond, ◌||◌, ◌&&◌, if◌then◌else◌, List, [], ◌∷◌, ◌++◌, length, Option, Some, None, codes, ◌⊎◌}
 use Rattle.std.specs.Str.{bytes_eq}
 use Rattle.indent_lexer.specs.declared.token.Token.{Token}
 use Rattle.source_trees.specs.declared.expression.Expr.{Expr}
@@ -9,7 +9,7 @@ use Rattle.source_trees.specs.declared.pipeline.PrintOptions.TheVariants.{Neithe
 use Rattle.source_trees.specs.declared.pipeline.Printed.{Printed}
 use Rattle.source_trees.specs.declared.statement.Target.{Target}
 use Rattle.source_trees.specs.declared.statement.Target.TheVariants as target
-use Rattle.parse_laws.specs.Parser.{Parser, ◌>>=◌, ◌>>◌, pure, refuse, choose, expect, take_by, repeat}
+use Rattle.parse_laws.specs.Parser.{Parser, ◌>>=◌, pure, refuse, choose, expect, take_by, repeat}
 use Rattle.parse_laws.specs.Language.{Language}
 use Rattle.parse_laws.specs.Forms.{Opens, Made}
 use Rattle.parse_laws.specs.Limits.{Nothing}

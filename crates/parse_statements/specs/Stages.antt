@@ -1,17 +1,16 @@
 -- How the stages of a pipeline are read: a name, and its arguments in brackets, where `...` stands once at most for the
 -- piped value.
-use Rattle.std.specs.Prelude.{◌≡◌, ℕ, ◌-◌, Bool, true, false, not, cond, ◌||◌, ◌&&◌, nat_lt, if◌then◌else◌, List, [], ◌∷◌, ◌++◌, length, Option, Some, None, codes}
+use Rattle.std.specs.Prelude.{ℕ, Bool, true, false, not, ◌||◌, ◌&&◌, nat_lt, if◌then◌else◌, List, [], ◌∷◌, ◌++◌, length, Option, Some, None, codes}
 use Rattle.std.specs.Str.{bytes_eq}
 use Rattle.indent_lexer.specs.declared.token.Token.{Token}
 use Rattle.source_trees.specs.declared.expression.Expr.{Expr}
-use Rattle.source_trees.specs.declared.pipeline.Joint.{Joint}
 use Rattle.source_trees.specs.declared.pipeline.Stage.{Stage}
 use Rattle.source_trees.specs.declared.pipeline.StageForm.{StageForm}
 use Rattle.source_trees.specs.declared.pipeline.StageForm.TheVariants as form
-use Rattle.parse_laws.specs.Parser.{Parser, ◌>>=◌, ◌>>◌, pure, refuse, choose, expect, take_by, repeat, row_turn, has, sees}
+use Rattle.parse_laws.specs.Parser.{Parser, ◌>>=◌, ◌>>◌, pure, choose, expect, take_by, repeat, row_turn, has}
 use Rattle.parse_laws.specs.Loops.{row_test}
 use Rattle.grammar_rules.specs.Simple.{joints}
-use Rattle.grammar_rules.specs.Words.{is_op, is_word, is_comma, name_of, look_up, name_at, most_items}
+use Rattle.grammar_rules.specs.Words.{is_op, is_comma, look_up, name_at, most_items}
 use Rattle.parse_statements.specs.Readers.{Readers, starts_expr}
 use Rattle.parse_statements.specs.Many.{one_or_more}
 use Rattle.parse_statements.specs.Prints as print

@@ -1,7 +1,6 @@
 -- Which expressions an assignment may write to (the Python reference, section 7.2): a name, an index and a field. What
 -- stands before `=` is read as expressions, and only then it is known for what it is.
-use Rattle.std.specs.Prelude.{◌≡◌, ℕ, Bool, true, false, List, [], ◌∷◌, Option, Some, None, codes}
-use Rattle.std.specs.Option.{option_map}
+use Rattle.std.specs.Prelude.{◌≡◌, Bool, true, false, List, [], ◌∷◌, Option, Some, None, codes}
 use Rattle.std.specs.Str.{bytes_eq}
 use Rattle.indent_lexer.specs.declared.token.Token.{Token}
 use Rattle.source_trees.specs.declared.expression.Comparison.{Comparison}
@@ -11,7 +10,7 @@ use Rattle.source_trees.specs.declared.statement.Target.{Target}
 use Rattle.source_trees.specs.declared.statement.Target.TheVariants as target
 use Rattle.parse_laws.specs.Parser.{in_table}
 use Rattle.parse_laws.specs.Language.{Language}
-use Rattle.grammar_rules.specs.Expressions.{IsExpr, IsPostfix}
+use Rattle.grammar_rules.specs.Expressions.{IsPostfix}
 use Rattle.grammar_rules.specs.Words.{is_word, node_at}
 
 abbrev pub target_in : Expr-F Expr Comparison → Option Target
