@@ -8,11 +8,9 @@ mod ClosedRuns
 mod Fuel
 pub mod LawsHold
 pub mod Waiting
-pub mod Equations
 pub mod BodyEquations
 pub mod Held
 pub mod Rest
 pub mod Left
-pub mod Parts
-pub mod NoteEquations
-pub mod Rounds
+pub mod Sets
+pub mod Results

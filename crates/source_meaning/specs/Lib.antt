@@ -23,8 +23,6 @@ pub mod Tasks
 pub mod Lists
 pub mod Walked
 pub mod Callees
-pub mod Collected
 pub mod Flows
 pub mod Frames
-pub mod Noted
-pub mod Reaching
+pub mod Steps

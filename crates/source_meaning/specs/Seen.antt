@@ -87,3 +87,7 @@ TellsAt outcome (Err e) s = e ≢ stop.Memory → outcome ≡ Stops (why_of e) s
 -- the stop is by that fault, unless memory fails
 abbrev pub IsFault : Stop → FaultKind → List ℕ → Type 0
 IsFault e kind text = e ≢ stop.Memory → why_of e ≡ meaning.Faulted (record { kind = kind; text = text })
+
+abbrev pub TellsAtBy : {A B : Type 0} → (B → A) → Outcome A → Result B Stop → meaning.State → Type 0
+TellsAtBy meant outcome (Ok b) s = outcome ≡ Gives (meant b) s
+TellsAtBy meant outcome (Err e) s = e ≢ stop.Memory → outcome ≡ Stops (why_of e) s

@@ -1,7 +1,7 @@
 ghost use Rattle.std.specs.Prelude.{◌≡◌, IfOk};
 ghost use Rattle.source_meaning.specs.Outcome.{is_next};
 ghost use Rattle.source_meaning.specs.Loops as spec;
-ghost use Rattle.source_meaning.specs.Seen.{flow_of};
+ghost use Rattle.source_meaning.specs.Seen.{flow_of, ended_by};
 ghost use Rattle.source_meaning.specs.Flows.{goes_on};
 
 use codon_base::{Memory, Value};
@@ -22,8 +22,10 @@ pub(crate) struct Flow {
     pub(crate) end: End,
 }
 
+/// A flow that leaves no body of a generator.
+#[tactic(auto, unfolding(crate::specs::Seen::flow_of))]
 pub(crate) fn ended(end: End) -> Flow
-    ensures { result ≡ record { left = 0; end = end } }
+    ensures { flow_of result ≡ ended_by end }
 {
     Flow { left: 0, end }
 }

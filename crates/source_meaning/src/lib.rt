@@ -1,20 +1,16 @@
-//! What a source means, by definitions over its tree: what it prints, how it ends, and which regions it runs, on so much fuel. It promises the laws of these definitions, and knows nothing of types, machine code or threads.
+//! What a source means, by definitions over its tree: what it prints, how it ends, and which regions it runs, on so much fuel. It promises the laws of these definitions, and knows nothing of types, machine code or threads. Beside them stand parts of the interpreter that computes this meaning: names, scopes, what a call names, flows, frames of names and the walks over bodies; the call that runs a whole module comes.
 #![tactic(auto)]
 
 mod bodies;
-mod captures;
 mod callee;
-mod expressions;
 mod flow;
 mod frames;
+mod iterable;
 mod law;
-mod mentions;
 mod names;
-mod objects;
-mod operations;
-mod prepare;
 mod prepared;
-mod reach;
+mod ranges;
+mod returns;
 mod runner;
 mod scope;
 mod state;

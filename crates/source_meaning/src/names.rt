@@ -30,6 +30,15 @@ impl Names {
         }
     }
 
+    /// The same names with equal values.
+    #[tactic(auto, unfolding(crate::specs::Seen::names_of))]
+    pub(crate) fn try_clone(&self, alloc: Global) -> Result<Names, Memory>
+        ensures { IfOk result (λ names. names_of names ≡ names_of self.now) }
+    {
+        let entries = clone_entries(alloc, &self.entries)?;
+        Ok(Names { entries })
+    }
+
     /// What a name holds, which is nothing where it was not assigned.
     pub(crate) fn get(&self, alloc: Global, name: &Spelling) -> Result<Value, Memory>
         ensures { IfOk result (λ v. v ≡ names_of self.now name.now) }
@@ -64,4 +73,22 @@ fn place_of(entries: &[Entry], name: &Spelling) -> Option<usize>
     ensures within { IfSome result (λ place. place < length entries.now) }
 {
     entries.iter().position(|entry| same(&entry.name, name))
+}
+
+fn clone_entry(alloc: Global, entry: &Entry) -> Result<Entry, Memory>
+    ensures { IfOk result (λ copy. copy ≡ entry.now) }
+{
+    let name = Spelling::from_slice(alloc, entry.name.as_slice())?;
+    let value = entry.value.try_clone(alloc)?;
+    Ok(Entry { name, value })
+}
+
+fn clone_entries(alloc: Global, entries: &[Entry]) -> Result<Vec<Entry>, Memory>
+    ensures { IfOk result (λ copy. copy.items ≡ entries.now) }
+{
+    let mut copy = Vec::new(alloc);
+    'entries: for entry in entries {
+        copy.push(clone_entry(alloc, entry)?)?;
+    }
+    Ok(copy)
 }

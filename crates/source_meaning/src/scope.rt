@@ -1,10 +1,11 @@
 ghost use Rattle.std.specs.Prelude.{◌≡◌};
-ghost use Rattle.source_meaning.specs.State.{is_among};
+ghost use Rattle.std.specs.List.{list_any};
+ghost use Rattle.source_meaning.specs.State.{same, is_among};
 ghost use Rattle.source_meaning.specs.Scopes.{scope_of, has_local, sets};
 
 use crate::names::{is_among, same};
 use codon_base::Spelling;
-use source_trees::LoopNames;
+use source_trees::{LoopNames, Name};
 
 /// Where a text stands: the names of the comprehensions round it, the innermost first, the variables of its body, those of them that no region has as private ones, and whether it is the prelude's.
 #[derive(Clone, Copy)]
@@ -21,14 +22,26 @@ pub(crate) fn sets(names: &LoopNames, name: &Spelling) -> bool
 {
     match names {
         LoopNames::One(only) => same(name, &only.spelling),
-        LoopNames::Several(all) => all.as_slice().iter().any(|other| same(name, &other.spelling)),
+        LoopNames::Several(all) => is_one_of(all.as_slice(), name),
     }
+}
+
+fn is_one_of(names: &[Name], name: &Spelling) -> bool
+    ensures { result ≡ list_any (λ other. same name.now other.spelling) names.now }
+{
+    names.iter().any(|other| same(name, &other.spelling))
+}
+
+fn is_inner(inner: &[&LoopNames], name: &Spelling) -> bool
+    ensures { result ≡ list_any (λ names. sets name.now names.now) inner.now }
+{
+    inner.iter().any(|names| sets(names, name))
 }
 
 fn has_local(scope: &Scope<'_>, name: &Spelling) -> bool
     ensures { result ≡ has_local name.now scope.now }
 {
-    scope.inner.iter().any(|names| sets(names, name)) || is_among(name, scope.locals)
+    is_inner(scope.inner, name) || is_among(name, scope.locals)
 }
 
 impl<'a> Scope<'a> {

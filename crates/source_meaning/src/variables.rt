@@ -1,5 +1,5 @@
 ghost use Rattle.source_meaning.specs.Variables as spec;
-ghost use Rattle.std.specs.Prelude.{IsTrue, nat_lt, codes, map};
+ghost use Rattle.std.specs.Prelude.{◌≡◌, ◌-◌, IsTrue, nat_lt, codes, map};
 ghost use Rattle.std.specs.List.{list_all};
 ghost use Rattle.source_meaning.specs.Outcome.{tick};
 ghost use Rattle.source_meaning.specs.Seen.{seen, Tells, TellsAt, IsFault};
@@ -95,6 +95,7 @@ pub(crate) fn wrong(alloc: Global) -> Stop
 }
 
 /// The names of a loop or a comprehension take an item.
+#[tactic(auto, unfolding(crate::specs::Outcome::bind, crate::specs::Outcome::pure, crate::specs::Outcome::stop))]
 pub(crate) fn set_loop_names(
     alloc: Global,
     state: &mut State,
@@ -114,6 +115,7 @@ pub(crate) fn set_loop_names(
 }
 
 /// The items of a tuple of that many.
+#[tactic(auto, unfolding(crate::specs::Outcome::bind, crate::specs::Outcome::pure, crate::specs::Outcome::stop))]
 pub(crate) fn unpacked(alloc: Global, count: usize, v: Value) -> Result<Values, Stop>
     ensures { (s : _) → TellsAt (spec.unpacked count v s) result s }
 {
@@ -129,6 +131,8 @@ pub(crate) fn unpacked(alloc: Global, count: usize, v: Value) -> Result<Values, 
     }
 }
 
+/// Names take items, in order.
+#[tactic(auto, unfolding(crate::specs::Outcome::bind, crate::specs::Outcome::pure, crate::specs::Outcome::stop))]
 fn set_each(
     alloc: Global,
     state: &mut State,
@@ -138,11 +142,21 @@ fn set_each(
 ) -> Result<(), Stop>
     ensures { Tells (spec.set_each (scope_of scope.now) (map (λ name. name.spelling) names.now) items.now (seen state.old)) result state.new }
 {
-    'names: for (place, name) in names.iter().enumerate() {
-        match items.get(place) {
-            Some(item) => set_name(alloc, state, scope, &name.spelling, item.try_clone(alloc)?)?,
-            None => return Ok(()),
-        }
+    let mut rest = items;
+    'names: for name in names {
+        let [item, more @ ..] = rest else {
+            return Ok(());
+        };
+        set_name(alloc, state, scope, &name.spelling, item.try_clone(alloc)?)?;
+        rest = more;
     }
     Ok(())
+}
+
+/// How many ticks are left.
+#[tactic(auto, unfolding(crate::specs::Seen::seen))]
+pub(crate) fn left(state: &State, limit: u64) -> u64
+    ensures { result ≡ limit - (seen state.now).shared.used }
+{
+    limit.saturating_sub(state.used)
 }

@@ -1,5 +1,6 @@
 use Rattle.std.proofs.Common.{◌≡◌, ◌<◌, ◌≤◌, ◌∙◌, sym, ap, refl, subst, rules, arith, List, length, Some, None, get_or}
 use Rattle.std.specs.List.{position, position_or_len}
+use Rattle.std.specs.Cmp.Lexicographic.{bytes_decides}
 use Rattle.std.proofs.Math.ListN.{set}
 use Rattle.source_meaning.specs.State.{Spelling, same, assigned_to}
 use Rattle.source_meaning.specs.Seen.{names_of, held_in}
@@ -22,4 +23,12 @@ returns-in-Some c =
 
 pub returns-in_ok-push-in-None : goal.returns-in_ok-push-in-None
 unfolding names_of
-returns-in_ok-push-in-None c = ?
+returns-in_ok-push-in-None c =
+    let items = c.args.self.now.entries.items in
+    let name = c.args.name.now in
+    let test : Entry → _ = λ e. same e.name name in
+    let where_is : None ≡ position test items = sym c.in-None.is ∙ c.place_of.ensures.place ∙ ap (position test) c.deref.ensures.value in
+    let new : Entry = record { name = c.in_ok-name-in-None.name; value = c.args.value } in
+    let same_bytes : new.name ≡ name = c.in_ok-name-in-None.ensures ∙ c.as_slice.ensures in
+    let named = (bytes_decides new.name name).1 same_bytes in
+    ap held_in c.in_ok-push-in-None.ensures.items ∙ (λ i other. held_push name new named items other (position_none test items where_is) i)

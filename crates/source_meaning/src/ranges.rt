@@ -1,0 +1,23 @@
+#![tactic(auto, unfolding(crate::specs::Outcome::pure, crate::specs::Outcome::stop))]
+
+ghost use Rattle.source_meaning.specs.Expressions as spec;
+ghost use Rattle.source_meaning.specs.Seen.{TellsAtBy};
+ghost use Rattle.source_meaning.specs.Steps.{iterable_of};
+
+use crate::iterable::Iterable;
+use crate::state::Stop;
+use crate::variables::wrong;
+use codon_base::{Value, Values};
+use std::alloc::Global;
+
+/// The start, stop and step of a range.
+pub(crate) fn range_of<'m>(alloc: Global, given: Values) -> Result<Iterable<'m>, Stop>
+    ensures { (s : _) → TellsAtBy iterable_of (spec.range_of given s) result s }
+{
+    match given.as_slice() {
+        [stop] => Ok(Iterable::Numbers(Value::Int(0), stop.try_clone(alloc)?, Value::Int(1))),
+        [start, stop] => Ok(Iterable::Numbers(start.try_clone(alloc)?, stop.try_clone(alloc)?, Value::Int(1))),
+        [start, stop, step] => Ok(Iterable::Numbers(start.try_clone(alloc)?, stop.try_clone(alloc)?, step.try_clone(alloc)?)),
+        _ => Err(wrong(alloc)),
+    }
+}
