@@ -1,6 +1,6 @@
 -- Relations of runs that hold of each step, and stay through each way of putting runs together. What is shown here of such a relation holds of every task: the law of fuel, what is printed, and which names wait are three of them.
 -- The left run has so many ticks and the right one may have more; the relation is counted by how many loops over generators stand round the text.
-use Rattle.std.proofs.Common.{ℕ, zero, suc, ◌≤◌, List, length, Bool, true, false, if◌then◌else◌}
+use Rattle.std.proofs.Common.{◌≡◌, ℕ, zero, suc, ◌≤◌, List, length, Bool, true, false, if◌then◌else◌}
 use Rattle.codon_base.specs.declared.object.Object.{Object}
 use Rattle.codon_base.specs.declared.value.Value.{Value}
 use Rattle.source_meaning.specs.State.{Names, State, Stop, OutOfFuel, Flow}
@@ -16,7 +16,7 @@ pub record Closed (R : Relation) (rules : Rules) (limit more : ℕ) (low high : 
   pub looks : (n : ℕ) (A : Type 0) (seen : State → A) → R n A (look seen) (look seen)
   pub changes_names : (n : ℕ) (change : Names → Names) → R n (Unit {0}) (change_names change) (change_names change)
   pub changes_globals : (n : ℕ) (change : Names → Names) → R n (Unit {0}) (change_globals change) (change_globals change)
-  pub changes_levels : (n : ℕ) (change : List (List Object) → List (List Object)) → R n (Unit {0}) (change_levels change) (change_levels change)
+  pub changes_levels : (n : ℕ) (change : List (List Object) → List (List Object)) → ((levels : List (List Object)) → length (change levels) ≡ length levels) → R n (Unit {0}) (change_levels change) (change_levels change)
   pub writes : (n : ℕ) (bytes : List ℕ) → R n (Unit {0}) (write bytes) (write bytes)
   pub ticks : (n : ℕ) → R n (Unit {0}) (tick limit) (tick more)
   pub fuels : (n : ℕ) (A : Type 0) (k l : ℕ → Run A) → ((a b : ℕ) → a ≤ b → R n A (k a) (l b)) → R n A (by_fuel limit k) (by_fuel more l)

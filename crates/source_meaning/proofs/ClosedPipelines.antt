@@ -69,13 +69,13 @@ module _ (program : Program) {R : Relation} {rules : Rules} {limit more : ℕ} {
     call_stage_closed Variable name given region stages rest after e = chain c (read_name_closed c program scope name) (λ _. c.stops _ _ _)
     call_stage_closed Unknown name given region stages rest after e = c.stops _ _ _
 
-    perform_closed : (f : StageForm) (region : Option Region) (stages : List Stage) (rest after : Value → Run Flow) → ((v : Value) → R (length consumers) Flow (rest v) (after v)) → (v : Value) → R (length consumers) Flow (pipelines.perform less consumers scope f region stages rest v) (pipelines.perform greater consumers scope f region stages after v)
+    pub perform_closed : (f : StageForm) (region : Option Region) (stages : List Stage) (rest after : Value → Run Flow) → ((v : Value) → R (length consumers) Flow (rest v) (after v)) → (v : Value) → R (length consumers) Flow (pipelines.perform less consumers scope f region stages rest v) (pipelines.perform greater consumers scope f region stages after v)
     perform_closed form.Iter region stages rest after e v = loop_over_closed (Items v) region stages rest after e
     perform_closed (form.Call name before behind) region stages rest after e v =
         chain c (c.lifts _ _ _ _ (exprs_closed program c scope before)) (λ xs. chain c (c.lifts _ _ _ _ (exprs_closed program c scope behind)) (λ ys. call_stage_closed (callee program scope name) name (xs ++ v ∷ ys) region stages rest after e))
     perform_closed (form.Print printed) region stages rest after e v = chain c (print_after_closed scope (v ∷ []) printed) (λ _. e _)
 
-    ahead_of_closed : (stages : List Stage) (run deed : Option Region → Run Flow) → ((region : Option Region) → R (length consumers) Flow (run region) (deed region)) → R (length consumers) Flow (pipelines.ahead_of less consumers scope stages run) (pipelines.ahead_of greater consumers scope stages deed)
+    pub ahead_of_closed : (stages : List Stage) (run deed : Option Region → Run Flow) → ((region : Option Region) → R (length consumers) Flow (run region) (deed region)) → R (length consumers) Flow (pipelines.ahead_of less consumers scope stages run) (pipelines.ahead_of greater consumers scope stages deed)
     ahead_of_closed [] run deed e = e None
     ahead_of_closed (stage ∷ stages) run deed e = chain c (begin_closed program c scope [] (notes_of_stages (stage ∷ stages)) []) (λ region. c.regions _ region _ _ (e (Some region)))
 

@@ -175,7 +175,7 @@ module _ (limit more : ℕ) (le : limit ≤ more) where
     looks = looks_later;
     changes_names = names_later;
     changes_globals = globals_later;
-    changes_levels = levels_later;
+    changes_levels = λ n change e. levels_later n change;
     writes = writes_later;
     ticks = ticks_later;
     fuels = fuels_later;

@@ -14,3 +14,7 @@ pub mod Rest
 pub mod Left
 pub mod Sets
 pub mod Results
+pub mod Private
+mod Steady
+pub mod Iterating
+pub mod GivenValues

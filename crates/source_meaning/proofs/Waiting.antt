@@ -153,7 +153,7 @@ module _ (limit : ℕ) where
     looks = looks_kept;
     changes_names = names_kept;
     changes_globals = globals_kept;
-    changes_levels = levels_kept;
+    changes_levels = λ n change e. levels_kept n change;
     writes = writes_kept;
     ticks = ticks_kept;
     fuels = fuels_kept;

@@ -26,3 +26,4 @@ pub mod Callees
 pub mod Flows
 pub mod Frames
 pub mod Steps
+pub mod Inside

@@ -1,11 +1,13 @@
 //! What a source means, by definitions over its tree: what it prints, how it ends, and which regions it runs, on so much fuel. It promises the laws of these definitions, and knows nothing of types, machine code or threads. Beside them stand parts of the interpreter that computes this meaning: names, scopes, what a call names, flows, frames of names and the walks over bodies; the call that runs a whole module comes.
 #![tactic(auto)]
 
+mod arguments;
 mod bodies;
 mod callee;
 mod flow;
 mod frames;
 mod iterable;
+mod iterations;
 mod law;
 mod names;
 mod prepared;

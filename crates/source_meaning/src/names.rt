@@ -1,11 +1,12 @@
-ghost use Rattle.std.specs.Prelude.{◌≡◌, ◌<◌, OnOk, OnErr, IfOk, IsTrue, IfSome, position, length};
-ghost use Rattle.std.specs.List.{list_any};
-ghost use Rattle.source_meaning.specs.State.{same, is_among, assigned_to, unset_names};
+ghost use Rattle.std.specs.Prelude.{◌≡◌, ◌<◌, OnOk, OnErr, IfOk, IsTrue, IfSome, length, not};
+ghost use Rattle.std.specs.List.{filter, list_any, position};
+ghost use Rattle.source_meaning.specs.State.{same, is_among, assigned_to, unset_names, with_names_of};
 ghost use Rattle.source_meaning.specs.Seen.{names_of};
 
 use crate::state::{Entry, Names};
 use codon_base::{Memory, Spelling, Value};
 use std::alloc::Global;
+use std::mem;
 
 /// Whether two names are spelled alike.
 pub(crate) fn same(a: &Spelling, b: &Spelling) -> bool
@@ -66,6 +67,45 @@ impl Names {
             }
         }
     }
+
+    /// Takes out the names that are among some.
+    pub(crate) fn split(&mut self, alloc: Global, own: &[Spelling]) -> Result<Names, Memory>
+        ensures kept { OnOk result (names_of self.new ≡ with_names_of unset_names own.now (names_of self.old)) }
+        ensures taken { IfOk result (λ taken. names_of taken ≡ with_names_of (names_of self.old) own.now unset_names) }
+    {
+        let entries = mem::replace(&mut self.entries, Vec::new(alloc));
+        let (inside, outside) = parted(alloc, entries, own)?;
+        self.entries = outside;
+        Ok(Names { entries: inside })
+    }
+
+    /// Puts some names back as they were taken out, in place of what they hold now.
+    pub(crate) fn join(&mut self, alloc: Global, own: &[Spelling], taken: Names) -> Result<(), Memory>
+        ensures { OnOk result (names_of self.new ≡ with_names_of (names_of taken) own.now (names_of self.old)) }
+    {
+        let entries = mem::replace(&mut self.entries, Vec::new(alloc));
+        let (_, mut all) = parted(alloc, entries, own)?;
+        let (mut inside, _) = parted(alloc, taken.entries, own)?;
+        all.append(&mut inside)?;
+        self.entries = all;
+        Ok(())
+    }
+}
+
+/// The entries whose names are among some, and the others.
+fn parted(alloc: Global, entries: Vec<Entry>, own: &[Spelling]) -> Result<(Vec<Entry>, Vec<Entry>), Memory>
+    ensures { IfOk result (λ parts. (parts.0.items ≡ filter (λ entry. is_among entry.name own.now) entries.items) × (parts.1.items ≡ filter (λ entry. not (is_among entry.name own.now)) entries.items)) }
+{
+    let mut inside = Vec::new(alloc);
+    let mut outside = Vec::new(alloc);
+    'entries: for entry in entries {
+        if is_among(&entry.name, own) {
+            inside.push(entry)?;
+        } else {
+            outside.push(entry)?;
+        }
+    }
+    Ok((inside, outside))
 }
 
 fn place_of(entries: &[Entry], name: &Spelling) -> Option<usize>
