@@ -92,7 +92,7 @@ module _ (program : Program) (limit depth : ℕ) (deep : Stop) where
 
     pub turn_steps : (region : Region) (inner : Scope) (names : LoopNames) (body : List Stmt) (v : Value) (s : State)
         → parallel_turn at consumers region inner names (statements at consumers inner body) v s
-          ≡ (entering region v >>= λ saved. body_turn at consumers inner names (statements at consumers inner body) v >>= λ flow. leaving region saved >>= λ _. pure flow) s
+        ≡ (entering region v >>= λ saved. body_turn at consumers inner names (statements at consumers inner body) v >>= λ flow. leaving region saved >>= λ _. pure flow) s
     turn_steps region inner names body v s = item_steps region v (body_turn at consumers inner names (statements at consumers inner body) v) (turn_steady inner names body v) s
 
     pub turn_levels : (inner : Scope) (names : LoopNames) (body : List Stmt) (v : Value) (s t : State) (flow : Flow)

@@ -110,8 +110,8 @@ unfolding counting
 counting_steady n p q e s =
     kept_then s.shared.iterations s.shared.iterations (length s.shared.levels) (length s.shared.levels) (q _) _ (e _)
     (λ flow t i m.
-        let counts = is_outside s.shared.iterations && is_next flow in
-        (counted_iterations counts s.shared t.shared ∙ i, counted_levels counts s.shared t.shared ∙ m))
+    let counts = is_outside s.shared.iterations && is_next flow in
+    (counted_iterations counts s.shared t.shared ∙ i, counted_levels counts s.shared t.shared ∙ m))
 
 items_steady : (n : ℕ) (region : Region) (v : Value) (p q : Run Flow) → Steady n Flow p q → Steady n Flow (in_place.item region v p) (in_place.item region v q)
 items_steady n region v p q e =

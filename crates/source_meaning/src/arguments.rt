@@ -50,7 +50,11 @@ fn after(params: &[Param], count: usize) -> &[Param]
 }
 
 /// The values of the parameters: those that are given, and then defaults. There are none where too many are given, or a value is missing.
-pub(crate) fn arguments(alloc: Global, params: &[Param], given: Values) -> Result<Option<Values>, Memory>
+pub(crate) fn arguments(
+    alloc: Global,
+    params: &[Param],
+    given: Values,
+) -> Result<Option<Values>, Memory>
     ensures { IfOk result (λ all. all ≡ spec.arguments params.now given) }
 {
     if given.len() > params.len() {

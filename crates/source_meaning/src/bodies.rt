@@ -20,7 +20,11 @@ pub(crate) enum Sought {
 }
 
 /// Puts an equal name at the end.
-pub(crate) fn push_name(alloc: Global, name: &Spelling, names: &mut Items<Spelling>) -> Result<(), Memory>
+pub(crate) fn push_name(
+    alloc: Global,
+    name: &Spelling,
+    names: &mut Items<Spelling>,
+) -> Result<(), Memory>
     ensures { OnOk result (names.new ≡ names.old ++ name.now ∷ []) }
 {
     names.push(Spelling::from_slice(alloc, name.as_slice())?)?;
@@ -28,7 +32,11 @@ pub(crate) fn push_name(alloc: Global, name: &Spelling, names: &mut Items<Spelli
 }
 
 /// Puts the names of a loop at the end.
-pub(crate) fn push_loop_names(alloc: Global, set: &LoopNames, names: &mut Items<Spelling>) -> Result<(), Memory>
+pub(crate) fn push_loop_names(
+    alloc: Global,
+    set: &LoopNames,
+    names: &mut Items<Spelling>,
+) -> Result<(), Memory>
     ensures { OnOk result (names.new ≡ names.old ++ loop_names set.now) }
 {
     match set {
@@ -74,7 +82,12 @@ fn push_each(alloc: Global, all: &[Target], names: &mut Items<Spelling>) -> Resu
     Ok(())
 }
 
-fn push_annotated(alloc: Global, name: &Name, value: &Option<Expr>, names: &mut Items<Spelling>) -> Result<(), Memory>
+fn push_annotated(
+    alloc: Global,
+    name: &Name,
+    value: &Option<Expr>,
+    names: &mut Items<Spelling>,
+) -> Result<(), Memory>
     ensures { OnOk result (names.new ≡ names.old ++ annotated_name name.now value.now) }
 {
     match value {
@@ -85,7 +98,12 @@ fn push_annotated(alloc: Global, name: &Name, value: &Option<Expr>, names: &mut 
 
 /// Puts the names at the end that a statement assigns, those of parallel loops only where they are asked for.
 #[cycle(assigned)]
-pub(crate) fn assigned_stmt(alloc: Global, s: &Stmt, all: bool, names: &mut Items<Spelling>) -> Result<(), Memory>
+pub(crate) fn assigned_stmt(
+    alloc: Global,
+    s: &Stmt,
+    all: bool,
+    names: &mut Items<Spelling>,
+) -> Result<(), Memory>
     ensures { OnOk result (names.new ≡ names.old ++ assigned_by (kept_if all) s.now) }
 {
     match s {
@@ -119,7 +137,12 @@ pub(crate) fn assigned_stmt(alloc: Global, s: &Stmt, all: bool, names: &mut Item
 }
 
 #[cycle(assigned)]
-fn assigned_arms(alloc: Global, arms: &[Arm], all: bool, names: &mut Items<Spelling>) -> Result<(), Memory>
+fn assigned_arms(
+    alloc: Global,
+    arms: &[Arm],
+    all: bool,
+    names: &mut Items<Spelling>,
+) -> Result<(), Memory>
     ensures { OnOk result (names.new ≡ names.old ++ flat_map (assigned_arm (kept_if all)) arms.now) }
 {
     'arms: for arm in arms {
@@ -129,7 +152,12 @@ fn assigned_arms(alloc: Global, arms: &[Arm], all: bool, names: &mut Items<Spell
 }
 
 #[cycle(assigned)]
-fn assigned_loop(alloc: Global, l: &For, all: bool, names: &mut Items<Spelling>) -> Result<(), Memory>
+fn assigned_loop(
+    alloc: Global,
+    l: &For,
+    all: bool,
+    names: &mut Items<Spelling>,
+) -> Result<(), Memory>
     ensures { OnOk result (names.new ≡ names.old ++ assigned_for (kept_if all) l.now) }
 {
     push_loop_names(alloc, &l.names, names)?;
@@ -138,7 +166,12 @@ fn assigned_loop(alloc: Global, l: &For, all: bool, names: &mut Items<Spelling>)
 
 /// Puts the names at the end that the statements of a body assign: all of them, or those that are assigned outside of the parallel loops in it.
 #[cycle(assigned)]
-pub(crate) fn assigned_body(alloc: Global, body: &[Stmt], all: bool, names: &mut Items<Spelling>) -> Result<(), Memory>
+pub(crate) fn assigned_body(
+    alloc: Global,
+    body: &[Stmt],
+    all: bool,
+    names: &mut Items<Spelling>,
+) -> Result<(), Memory>
     ensures { OnOk result (names.new ≡ names.old ++ flat_map (assigned_by (kept_if all)) body.now) }
 {
     'body: for s in body {

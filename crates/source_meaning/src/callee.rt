@@ -44,7 +44,10 @@ pub(crate) enum Callee<'m> {
 }
 
 /// The first function of that name.
-pub(crate) fn function_named<'m>(name: &Spelling, functions: &'m [Known<'m>]) -> Option<&'m Known<'m>>
+pub(crate) fn function_named<'m>(
+    name: &Spelling,
+    functions: &'m [Known<'m>],
+) -> Option<&'m Known<'m>>
     ensures { found_function result ≡ spec.function_named name.now (functions_in functions.now) }
 {
     'functions: for known in functions {
@@ -74,7 +77,10 @@ fn in_prelude_or_builtin<'m>(program: &'m Prepared<'m>, name: &Spelling) -> Call
     ensures { callee_of result ≡ spec.in_prelude_or_builtin (program_of program.now) name.now }
 {
     match function_named(name, &program.prelude) {
-        Some(known) => Callee::Defined(Called { known, in_prelude: true }),
+        Some(known) => Callee::Defined(Called {
+            known,
+            in_prelude: true,
+        }),
         None => builtin_named(name),
     }
 }
@@ -84,7 +90,10 @@ fn defined_in_module<'m>(program: &'m Prepared<'m>, name: &Spelling) -> Callee<'
     ensures { callee_of result ≡ spec.defined_or false (spec.function_named name.now (functions_in program.now.functions.items)) (spec.class_named name.now 0 (classes_in program.now.classes.items) (spec.in_prelude_or_builtin (program_of program.now) name.now)) }
 {
     if let Some(known) = function_named(name, &program.functions) {
-        return Callee::Defined(Called { known, in_prelude: false });
+        return Callee::Defined(Called {
+            known,
+            in_prelude: false,
+        });
     }
     match class_named(name, program) {
         Some(numbered) => Callee::Constructor(numbered),
@@ -94,7 +103,11 @@ fn defined_in_module<'m>(program: &'m Prepared<'m>, name: &Spelling) -> Callee<'
 
 /// What a name that is called means in a text.
 #[tactic(auto, unfolding(crate::specs::Tasks::program_of))]
-pub(crate) fn resolve<'m>(program: &'m Prepared<'m>, scope: &Scope<'_>, name: &Spelling) -> Callee<'m>
+pub(crate) fn resolve<'m>(
+    program: &'m Prepared<'m>,
+    scope: &Scope<'_>,
+    name: &Spelling,
+) -> Callee<'m>
     ensures { callee_of result ≡ spec.callee (program_of program.now) (scope_of scope.now) name.now }
 {
     if scope.in_prelude {

@@ -75,7 +75,10 @@ pub(crate) fn yielded(flow: Flow) -> Result<Flow, Memory>
         return Ok(ended(End::Next));
     }
     match flow.left.checked_add(1) {
-        Some(left) => Ok(Flow { left, end: flow.end }),
+        Some(left) => Ok(Flow {
+            left,
+            end: flow.end,
+        }),
         None => Err(Memory),
     }
 }

@@ -4,8 +4,8 @@ ghost use Rattle.std.specs.Prelude.{◌≡◌, OnOk};
 ghost use Rattle.source_meaning.specs.Frames.{with_names, waited, taken};
 ghost use Rattle.source_meaning.specs.Seen.{seen, names_of, TellsNames};
 
-use crate::variables::wrong;
 use crate::state::{Names, State, Stop};
+use crate::variables::wrong;
 use codon_base::Memory;
 use std::alloc::Global;
 use std::mem;

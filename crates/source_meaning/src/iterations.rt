@@ -29,7 +29,12 @@ pub(crate) struct Begun {
 }
 
 /// Begins the iteration of an item that has come to a region, with the private names of the region fresh.
-pub(crate) fn enter_iteration(alloc: Global, state: &mut State, region: &Region, item: Value) -> Result<Saved, Stop>
+pub(crate) fn enter_iteration(
+    alloc: Global,
+    state: &mut State,
+    region: &Region,
+    item: Value,
+) -> Result<Saved, Stop>
     ensures { TellsBy saved_of (entering (region_of region.now) item (seen state.old)) result state.new }
 {
     let Some(reached) = state.reached.checked_add(1) else {
@@ -53,19 +58,30 @@ fn open_level(alloc: Global, store: &mut Store, region: &Region, item: Value) ->
     store.heap.enter(alloc)?;
     let lent = Items::from_slice(alloc, region.lent.as_slice())?;
     let targets = Items::from_slice(alloc, region.targets.as_slice())?;
-    store.iterations.push(Iteration { item, lent, targets })?;
+    store.iterations.push(Iteration {
+        item,
+        lent,
+        targets,
+    })?;
     Ok(())
 }
 
 /// Ends the iteration that began last: its objects are dropped, and what was before it is put back.
-pub(crate) fn leave_iteration(alloc: Global, state: &mut State, region: &Region, saved: Saved) -> Result<(), Stop>
+pub(crate) fn leave_iteration(
+    alloc: Global,
+    state: &mut State,
+    region: &Region,
+    saved: Saved,
+) -> Result<(), Stop>
     requires { 1 < length (seen state.old).shared.levels }
     ensures { Tells (leaving (region_of region.now) (saved_of saved) (seen state.old)) result state.new }
 {
     close_level(&mut state.store);
     state.used = saved.used;
     state.names.join(alloc, region.own.as_slice(), saved.names)?;
-    state.globals.join(alloc, region.own_globals.as_slice(), saved.globals)?;
+    state
+        .globals
+        .join(alloc, region.own_globals.as_slice(), saved.globals)?;
     Ok(())
 }
 

@@ -52,7 +52,12 @@ impl Names {
         Ok(Value::Unset)
     }
 
-    pub(crate) fn assign(&mut self, alloc: Global, name: &Spelling, value: Value) -> Result<(), Memory>
+    pub(crate) fn assign(
+        &mut self,
+        alloc: Global,
+        name: &Spelling,
+        value: Value,
+    ) -> Result<(), Memory>
         ensures { OnOk result (names_of self.new ≡ assigned_to name.now value (names_of self.old)) }
     {
         match place_of(&self.entries, name) {
@@ -80,7 +85,12 @@ impl Names {
     }
 
     /// Puts some names back as they were taken out, in place of what they hold now.
-    pub(crate) fn join(&mut self, alloc: Global, own: &[Spelling], taken: Names) -> Result<(), Memory>
+    pub(crate) fn join(
+        &mut self,
+        alloc: Global,
+        own: &[Spelling],
+        taken: Names,
+    ) -> Result<(), Memory>
         ensures { OnOk result (names_of self.new ≡ with_names_of (names_of taken) own.now (names_of self.old)) }
     {
         let entries = mem::replace(&mut self.entries, Vec::new(alloc));
@@ -93,7 +103,11 @@ impl Names {
 }
 
 /// The entries whose names are among some, and the others.
-fn parted(alloc: Global, entries: Vec<Entry>, own: &[Spelling]) -> Result<(Vec<Entry>, Vec<Entry>), Memory>
+fn parted(
+    alloc: Global,
+    entries: Vec<Entry>,
+    own: &[Spelling],
+) -> Result<(Vec<Entry>, Vec<Entry>), Memory>
     ensures { IfOk result (λ parts. (parts.0.items ≡ filter (λ entry. is_among entry.name own.now) entries.items) × (parts.1.items ≡ filter (λ entry. not (is_among entry.name own.now)) entries.items)) }
 {
     let mut inside = Vec::new(alloc);

@@ -16,8 +16,16 @@ pub(crate) fn range_of<'m>(alloc: Global, given: Values) -> Result<Iterable<'m>,
 {
     match given.as_slice() {
         [stop] => Ok(Iterable::Numbers(Value::Int(0), stop.try_clone(alloc)?, Value::Int(1))),
-        [start, stop] => Ok(Iterable::Numbers(start.try_clone(alloc)?, stop.try_clone(alloc)?, Value::Int(1))),
-        [start, stop, step] => Ok(Iterable::Numbers(start.try_clone(alloc)?, stop.try_clone(alloc)?, step.try_clone(alloc)?)),
+        [start, stop] => Ok(Iterable::Numbers(
+            start.try_clone(alloc)?,
+            stop.try_clone(alloc)?,
+            Value::Int(1),
+        )),
+        [start, stop, step] => Ok(Iterable::Numbers(
+            start.try_clone(alloc)?,
+            stop.try_clone(alloc)?,
+            step.try_clone(alloc)?,
+        )),
         _ => Err(wrong(alloc)),
     }
 }

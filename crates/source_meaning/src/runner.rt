@@ -17,12 +17,36 @@ pub(crate) struct Runner<'m, F> {
     pub(crate) low: F,
 }
 
-impl<'m, F: Fn(Global, &Prepared<'_>, u64, u32, &mut State, &[Consumer<'_>], Task<'_>) -> Result<Flow, Stop>> Runner<'m, F> {
+impl<
+    'm,
+    F: Fn(
+        Global,
+        &Prepared<'_>,
+        u64,
+        u32,
+        &mut State,
+        &[Consumer<'_>],
+        Task<'_>,
+    ) -> Result<Flow, Stop>,
+> Runner<'m, F> {
     /// Runs a task one level deeper.
-    pub(crate) fn deeper(&self, state: &mut State, consumers: &[Consumer<'_>], task: Task<'_>) -> Result<Flow, Stop>
+    pub(crate) fn deeper(
+        &self,
+        state: &mut State,
+        consumers: &[Consumer<'_>],
+        task: Task<'_>,
+    ) -> Result<Flow, Stop>
         requires { Nests self.now.program.now self.now.limit self.now.depth (F.pre self.now.low) (F.post self.now.low) }
         ensures { TellsFlow (lower self.now.program.now self.now.limit self.now.depth (consumers_of consumers.now) (task_of task.entry) (seen state.old)) result state.new }
     {
-        (self.low)(self.alloc, self.program, self.limit, self.depth, state, consumers, task)
+        (self.low)(
+            self.alloc,
+            self.program,
+            self.limit,
+            self.depth,
+            state,
+            consumers,
+            task,
+        )
     }
 }

@@ -75,7 +75,6 @@ pub(crate) fn read_name(
     }
 }
 
-
 /// The stop by a fault, or for want of memory.
 pub(crate) fn fault(alloc: Global, kind: FaultKind, text: &[u8]) -> Stop
     requires { IsTrue (list_all (λ b. nat_lt b 128) text.now) }
