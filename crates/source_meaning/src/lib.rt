@@ -9,6 +9,7 @@ mod frames;
 mod iterable;
 mod iterations;
 mod law;
+mod loops;
 mod names;
 mod prepared;
 mod ranges;
