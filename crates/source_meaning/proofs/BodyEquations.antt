@@ -21,7 +21,7 @@ use Rattle.source_meaning.specs.State.{Spelling}
 use Rattle.source_meaning.specs.Bodies.{loop_names, target_names, targets_names, annotated_name, assigned_by, assigned_step, assigned_in_arm, assigned_in_loop, has_some, some_step, some_in_arm, some_in_loop}
 use Rattle.source_meaning.specs.Walked.{assigned_arm, assigned_for, some_arm, some_for}
 
-flat_map_map : {X Y A : Type 0} (f : X → Y) (g : Y → List A) (xs : List X) → flat_map g (map f xs) ≡ flat_map (λ x. g (f x)) xs
+pub flat_map_map : {X Y A : Type 0} (f : X → Y) (g : Y → List A) (xs : List X) → flat_map g (map f xs) ≡ flat_map (λ x. g (f x)) xs
 flat_map_map f g [] = refl
 flat_map_map f g (x ∷ xs) = ap (λ l. g (f x) ++ l) (flat_map_map f g xs)
 
@@ -29,7 +29,7 @@ any_map : {X : Type 0} (f : X → Bool) (xs : List X) → list_any (λ b. b) (ma
 any_map f [] = refl
 any_map f (x ∷ xs) = ap (λ b. f x || b) (any_map f xs)
 
-flat_map_same : {X A : Type 0} (f g : X → List A) → ((x : X) → f x ≡ g x) → (xs : List X) → flat_map f xs ≡ flat_map g xs
+pub flat_map_same : {X A : Type 0} (f g : X → List A) → ((x : X) → f x ≡ g x) → (xs : List X) → flat_map f xs ≡ flat_map g xs
 flat_map_same f g e [] = refl
 flat_map_same f g e (x ∷ xs) = ap (λ l. l ++ flat_map f xs) (e x) ∙ ap (λ l. g x ++ l) (flat_map_same f g e xs)
 
