@@ -121,6 +121,7 @@ impl Heap {
     /// Opens a level above the others.
     pub fn enter(&mut self, alloc: Global) -> Result<(), Memory>
         ensures ok { OnOk result (self.new ≡ self.old ++ [] ∷ []) }
+        ensures above { OnOk result (1 < length self.new) }
         ensures err { OnErr result (self.new ≡ self.old) }
     {
         if self.levels.len() > u32::MAX as usize {
