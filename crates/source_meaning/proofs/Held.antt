@@ -8,7 +8,7 @@ use Rattle.std.proofs.lemmas.Bool.{ltb-true, ltb-false}
 use Rattle.std.proofs.lemmas.List.Folds.{list_any-append}
 use Rattle.codon_base.specs.declared.value.Value.{Value}
 use Rattle.source_meaning.specs.State.{Spelling, same, is_among, assigned_to}
-use Rattle.std.specs.Borrow.{Bor}
+use Rattle.source_meaning.specs.declared.scope.Inner.{Inner}
 use Rattle.source_trees.specs.declared.statement.LoopNames.{LoopNames}
 use Rattle.source_trees.specs.declared.statement.LoopNames.TheVariants as names
 use Rattle.source_meaning.specs.Bodies.{loop_names}
@@ -39,12 +39,12 @@ sets_is : (name : Spelling) (l : LoopNames) → is_among name (loop_names l) ≡
 sets_is name (names.One only) = either_false (same name only.spelling)
 sets_is name (names.Several all) = any_map (same name) (λ n. n.spelling) all
 
-inner_is : (name : Spelling) (inner : List (Bor LoopNames)) → is_among name (flat_map (λ l. loop_names l.now) inner) ≡ list_any (λ l. sets name l.now) inner
+inner_is : (name : Spelling) (inner : List Inner) → is_among name (flat_map (λ l. loop_names l.names.now) inner) ≡ list_any (λ l. sets name l.names.now) inner
 inner_is name [] = refl
-inner_is name (l ∷ inner) = list_any-append (same name) (loop_names l.now) (flat_map (λ l. loop_names l.now) inner) ∙ ap (λ (b : Bool). b || is_among name (flat_map (λ l. loop_names l.now) inner)) (sets_is name l.now) ∙ ap (λ (b : Bool). sets name l.now || b) (inner_is name inner)
+inner_is name (l ∷ inner) = list_any-append (same name) (loop_names l.names.now) (flat_map (λ l. loop_names l.names.now) inner) ∙ ap (λ (b : Bool). b || is_among name (flat_map (λ l. loop_names l.names.now) inner)) (sets_is name l.names.now) ∙ ap (λ (b : Bool). sets name l.names.now || b) (inner_is name inner)
 
 pub has_is : (name : Spelling) (s : Scope) → has_local name s ≡ is_among name (scope_of s).locals
-has_is name s = sym (list_any-append (same name) (flat_map (λ l. loop_names l.now) s.inner.now) s.locals.now ∙ ap (λ (b : Bool). b || is_among name s.locals.now) (inner_is name s.inner.now))
+has_is name s = sym (list_any-append (same name) (flat_map (λ l. loop_names l.names.now) s.inner.now) s.locals.now ∙ ap (λ (b : Bool). b || is_among name s.locals.now) (inner_is name s.inner.now))
 
 -- ---- names
 

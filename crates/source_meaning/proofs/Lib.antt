@@ -20,3 +20,12 @@ pub mod Private
 mod Steady
 pub mod Iterating
 pub mod GivenValues
+pub mod Equations
+pub mod Parts
+pub mod StatementEquations
+pub mod Turns
+pub mod Blocks
+pub mod Over
+pub mod MethodCalls
+pub mod Assigns
+pub mod Rounds

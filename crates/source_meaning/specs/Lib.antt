@@ -28,3 +28,12 @@ pub mod Frames
 pub mod Steps
 pub mod Inside
 pub mod Noted
+pub mod Collected
+pub mod Cursors
+pub mod Targets
+pub mod Kinds
+pub mod Pieces
+pub mod Reaching
+pub mod Sights
+pub mod Stages
+pub mod Plain

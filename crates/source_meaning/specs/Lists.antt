@@ -1,11 +1,83 @@
--- The value of a name, by the text alone.
-use Rattle.std.specs.Prelude.{codes}
+-- What the interpreter's loops over expressions compute.
+use Rattle.std.specs.Prelude.{true, false, if◌then◌else◌, List, [], ◌∷◌, codes}
 use Rattle.codon_base.specs.declared.value.Value.{Value}
-use Rattle.source_meaning.specs.State.{Spelling}
-use Rattle.source_meaning.specs.Outcome.{Run, ◌>>=◌}
-use Rattle.source_meaning.specs.Objects.{if_set}
+use Rattle.codon_base.specs.declared.value.Value.TheVariants as value
+use Rattle.source_trees.specs.declared.expression.Expr.{Expr}
+use Rattle.source_meaning.specs.Outcome.{Run, ◌>>=◌, pure, wrong}
 use Rattle.source_meaning.specs.Program.{Scope}
-use Rattle.source_meaning.specs.Variables.{held_by}
+use Rattle.source_meaning.specs.Task.{Setting}
+use Rattle.std.specs.Prelude.{Option, Some, None}
+use Rattle.source_trees.specs.declared.expression.Comparison.{Comparison}
+use Rattle.source_trees.specs.declared.statement.LoopNames.{LoopNames}
+use Rattle.source_meaning.specs.Bodies.{yields, loop_names}
+use Rattle.source_meaning.specs.Objects.{operate, truth}
+use Rattle.source_meaning.specs.Operations.{compared_made, builtin}
+use Rattle.source_meaning.specs.Program.{Builtin, ToList, Range, Callee, Defined, Constructor, Standard, Variable, Unknown, callee, with_locals}
+use Rattle.source_meaning.specs.Calls.{call, construct}
+use Rattle.source_meaning.specs.Loops.{Iterable, Generated}
+use Rattle.source_meaning.specs.Expressions.{expr, exprs, condition, iterable, if_holds, gathered, comprehended, not_set, range_of, items_of}
+use Rattle.source_meaning.specs.Meaning.{condition_of}
+use Rattle.source_meaning.specs.Objects.{if_set}
+use Rattle.source_meaning.specs.State.{Spelling}
+use Rattle.source_meaning.specs.Variables.{held_by, read_name}
 
+abbrev pub some_true : Setting → Scope → List Expr → Run Value
+some_true here scope [] = pure (value.Bool false)
+some_true here scope (e ∷ more) = condition here scope e >>= λ t. if t then pure (value.Bool true) else some_true here scope more
+
+abbrev pub all_true : Setting → Scope → List Expr → Run Value
+all_true here scope [] = pure (value.Bool true)
+all_true here scope (e ∷ more) = condition here scope e >>= λ t. if t then all_true here scope more else pure (value.Bool false)
+
+-- the value of a name, by the text alone
 abbrev pub named : Scope → Spelling → Run Value
 named scope name = held_by scope name >>= if_set (codes "name is not set")
+
+module _ (here : Setting) (scope : Scope) where
+  -- a bound of a slice
+  abbrev pub bound : Option Expr → Run Value
+  bound None = pure value.Unit
+  bound (Some e) = expr here scope e
+
+  -- the right operand of a comparison, where it holds
+  abbrev pub compares : Comparison → Value → Run (Option Value)
+  compares c v = expr here scope c.right >>= λ w. operate here.rules (compared_made c.comparator v w) >>= truth here.rules >>= λ holds. pure (if holds then Some w else None)
+
+  abbrev pub chained : List Comparison → Value → Run Value
+  chained [] v = pure (value.Bool true)
+  chained (c ∷ more) v = compares c v >>= λ o. if_holds here o (chained more)
+
+  -- ---- calls
+
+  abbrev pub standard : Builtin → List Expr → Run Value
+  standard ToList (e ∷ []) = iterable here scope e >>= gathered here
+  standard which parts = exprs here scope parts >>= builtin here.rules which
+
+  abbrev pub called_by : Callee → Spelling → List Expr → Run Value
+  called_by (Defined known) name parts = exprs here scope parts >>= call here known
+  called_by (Constructor number class) name parts = exprs here scope parts >>= construct here number class
+  called_by (Standard which) name parts = standard which parts
+  called_by Variable name parts = read_name here.program scope name >>= λ _. wrong
+  called_by Unknown name parts = not_set here
+
+  abbrev pub called : Spelling → List Expr → Run Value
+  called name parts = called_by (callee here.program scope name) name parts
+
+  abbrev pub standard_goes : Builtin → List Expr → Run Iterable
+  standard_goes Range parts = exprs here scope parts >>= range_of
+  standard_goes which parts = items_of (standard which parts)
+
+  abbrev pub called_goes_by : Callee → Spelling → List Expr → Run Iterable
+  called_goes_by (Defined known) name parts =
+      if yields known.function.body then (exprs here scope parts >>= λ vs. pure (Generated known vs)) else items_of (called_by (Defined known) name parts)
+  called_goes_by (Standard which) name parts = standard_goes which parts
+  called_goes_by other name parts = items_of (called_by other name parts)
+
+  abbrev pub called_iterable : Spelling → List Expr → Run Iterable
+  called_iterable name parts = called_goes_by (callee here.program scope name) name parts
+
+  -- ---- comprehensions
+
+  abbrev pub comprehended_of : LoopNames → Iterable → Option Expr → Expr → Run Value
+  comprehended_of names goes_over kept item =
+      let inner = with_locals (loop_names names) scope in comprehended here inner names goes_over kept (condition_of here inner kept) item (expr here inner item)

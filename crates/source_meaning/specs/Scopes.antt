@@ -9,11 +9,11 @@ use Rattle.source_meaning.specs.Program as program
 use Rattle.source_meaning.specs.declared.scope.Scope.{Scope}
 
 abbrev pub scope_of : Scope → program.Scope
-scope_of s = record { locals = flat_map (λ names. loop_names names.now) s.inner.now ++ s.locals.now; fixed = s.fixed.now; in_prelude = s.in_prelude }
+scope_of s = record { locals = flat_map (λ each. loop_names each.names.now) s.inner.now ++ s.locals.now; fixed = s.fixed.now; in_prelude = s.in_prelude }
 
 abbrev pub sets : Spelling → LoopNames → Bool
 sets name (names.One only) = same name only.spelling
 sets name (names.Several all) = list_any (λ other. same name other.spelling) all
 
 abbrev pub has_local : Spelling → Scope → Bool
-has_local name s = list_any (λ names. sets name names.now) s.inner.now || is_among name s.locals.now
+has_local name s = list_any (λ each. sets name each.names.now) s.inner.now || is_among name s.locals.now

@@ -4,21 +4,42 @@
 mod arguments;
 mod bodies;
 mod callee;
+mod calls;
+mod captures;
+mod cursor;
+mod expressions;
 mod flow;
 mod frames;
 mod iterable;
 mod iterations;
 mod law;
+mod loops;
 mod mentions;
+mod methods;
 mod names;
+mod objects;
+mod operations;
+mod pipelines;
+mod plain;
+mod prepare;
 mod prepared;
+mod printing;
 mod ranges;
+mod reach;
 mod returns;
 mod runner;
 mod scope;
+mod sight;
+mod simple;
+mod stages;
 mod state;
+mod statements;
 mod task;
 mod variables;
 mod words;
 
 pub use law::{keeps_waiting, law_of_fuel, prints_more};
+pub use plain::{Plain, PlainEnd, run_plain};
+
+#[cfg(test)]
+mod tests;

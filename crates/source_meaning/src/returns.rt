@@ -15,7 +15,7 @@ use sqlite_items::Items;
 use std::alloc::Global;
 
 /// What a function gives whose body ended so.
-fn result_of(alloc: Global, known: &Known<'_>, flow: Flow) -> Result<Value, Stop>
+pub(crate) fn result_of(alloc: Global, known: &Known<'_>, flow: Flow) -> Result<Value, Stop>
     ensures { (s : _) → TellsAt (spec.result known.now.function.now (flow_of flow) s) result s }
 {
     result_at(alloc, known, flow.end)
@@ -53,7 +53,7 @@ impl<'m> Called<'m> {
 }
 
 /// As many values as there are fields, none of which is set.
-fn unset_fields(alloc: Global, fields: &[Spelling]) -> Result<Values, Memory>
+pub(crate) fn unset_fields(alloc: Global, fields: &[Spelling]) -> Result<Values, Memory>
     ensures { IfOk result (λ vs. vs ≡ map (λ name. value.Unset) fields.now) }
 {
     let mut unset = Items::new(alloc);

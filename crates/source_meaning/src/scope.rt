@@ -1,16 +1,23 @@
-ghost use Rattle.std.specs.Prelude.{◌≡◌};
+ghost use Rattle.std.specs.Prelude.{◌≡◌, ◌∷◌, IfOk};
 ghost use Rattle.std.specs.List.{list_any};
 ghost use Rattle.source_meaning.specs.State.{same, is_among};
 ghost use Rattle.source_meaning.specs.Scopes.{scope_of, has_local, sets};
 
 use crate::names::{is_among, same};
-use codon_base::Spelling;
+use codon_base::{Memory, Spelling};
 use source_trees::{LoopNames, Name};
+use std::alloc::Global;
+
+/// The names of a comprehension.
+#[derive(Clone, Copy)]
+pub(crate) struct Inner<'a> {
+    pub(crate) names: &'a LoopNames,
+}
 
 /// Where a text stands: the names of the comprehensions round it, the innermost first, the variables of its body, those of them that no region has as private ones, and whether it is the prelude's.
 #[derive(Clone, Copy)]
 pub(crate) struct Scope<'a> {
-    pub(crate) inner: &'a [&'a LoopNames],
+    pub(crate) inner: &'a [Inner<'a>],
     pub(crate) locals: &'a [Spelling],
     pub(crate) fixed: &'a [Spelling],
     pub(crate) in_prelude: bool,
@@ -32,10 +39,10 @@ fn is_one_of(names: &[Name], name: &Spelling) -> bool
     names.iter().any(|other| same(name, &other.spelling))
 }
 
-fn is_inner(inner: &[&LoopNames], name: &Spelling) -> bool
-    ensures { result ≡ list_any (λ names. sets name.now names.now) inner.now }
+fn is_inner(inner: &[Inner<'_>], name: &Spelling) -> bool
+    ensures { result ≡ list_any (λ each. sets name.now each.names.now) inner.now }
 {
-    inner.iter().any(|names| sets(names, name))
+    inner.iter().any(|each| sets(each.names, name))
 }
 
 fn has_local(scope: &Scope<'_>, name: &Spelling) -> bool
@@ -51,4 +58,16 @@ impl<'a> Scope<'a> {
     {
         has_local(self, name)
     }
+}
+
+/// The names of comprehensions, with those of one more inside.
+pub(crate) fn within<'a>(alloc: Global, top: Inner<'a>, inner: &[Inner<'a>]) -> Result<Vec<Inner<'a>>, Memory>
+    ensures { IfOk result (λ all. all.items ≡ top.entry ∷ inner.now) }
+{
+    let mut all = Vec::new(alloc);
+    all.push(top)?;
+    'inner: for each in inner {
+        all.push(*each)?;
+    }
+    Ok(all)
 }

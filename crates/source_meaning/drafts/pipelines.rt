@@ -1,0 +1,173 @@
+#![tactic(auto, unfolding(crate::specs::Outcome::bind, crate::specs::Outcome::pure, crate::specs::Outcome::stop))]
+
+ghost use Rattle.std.specs.Prelude.{drop};
+ghost use Rattle.source_meaning.specs.Pipelines as spec;
+ghost use Rattle.source_meaning.specs.Callees.{builtin_of};
+ghost use Rattle.source_meaning.specs.Expressions.{call_builtin};
+ghost use Rattle.source_meaning.specs.Meaning.{turn_of};
+ghost use Rattle.source_meaning.specs.Program.{callee, ToList};
+ghost use Rattle.source_meaning.specs.Scopes.{scope_of};
+ghost use Rattle.source_meaning.specs.Seen.{seen, Tells, TellsFlow};
+ghost use Rattle.source_meaning.specs.Stages.{staged, stage_called, stage_loop};
+ghost use Rattle.source_meaning.specs.Steps.{iterable_of, looped, turns_from};
+ghost use Rattle.source_meaning.specs.Task.{Stages};
+ghost use Rattle.source_meaning.specs.Tasks.{Nests, here, consumers_of, region_at, program_of};
+
+use crate::callee::{Builtin, Callee, resolve};
+use crate::cursor::{begun, next};
+use crate::flow::{End, Flow, after_loop, ended, goes_on};
+use crate::iterable::{Cursor, Iterable};
+use crate::operations::builtin;
+use crate::prepared::Prepared;
+use crate::runner::Runner;
+use crate::scope::Scope;
+use crate::state::{State, Stop};
+use crate::task::{Consumer, Region, Task};
+use crate::variables::{fault, left, read_name, wrong};
+use codon_base::{FaultKind, Spelling, Value, Values};
+use source_trees::{Joint, Stage, StageForm};
+use sqlite_items::Items;
+use std::alloc::Global;
+
+impl<'m, F: Fn(Global, &Prepared<'_>, u64, u32, &mut State, &[Consumer<'_>], Task<'_>) -> Result<Flow, Stop>> Runner<'m, F> {
+    /// The stages from a place on, on a value.
+    #[cycle(pipeline)]
+    pub(crate) fn through(&self, state: &mut State, consumers: &[Consumer<'_>], scope: &Scope<'_>, region: Option<&Region>, stages: &Items<Stage>, place: usize, v: Value) -> Result<Flow, Stop>
+        requires { Nests self.now.program.now self.now.limit self.now.depth (F.pre self.now.low) (F.post self.now.low) }
+        ensures { TellsFlow (spec.through (here self.now.program.now self.now.limit self.now.depth) (consumers_of consumers.now) (scope_of scope.now) (region_at region.entry) (drop place stages.now) v (seen state.old)) result state.new }
+    {
+        let Some(stage) = stages.get(place) else {
+            return Ok(ended(End::Next));
+        };
+        match stage.joint {
+            Joint::InTurn => self.perform(state, consumers, scope, &stage.form, region, stages, place + 1, v),
+            Joint::InParallel => Err(Stop::Memory),
+        }
+    }
+
+    /// What a stage does with a value, and the stages from a place on with what it passes on.
+    #[cycle(pipeline)]
+    fn perform(&self, state: &mut State, consumers: &[Consumer<'_>], scope: &Scope<'_>, form: &StageForm, region: Option<&Region>, stages: &Items<Stage>, from: usize, v: Value) -> Result<Flow, Stop>
+        requires { Nests self.now.program.now self.now.limit self.now.depth (F.pre self.now.low) (F.post self.now.low) }
+        ensures { TellsFlow (staged (here self.now.program.now self.now.limit self.now.depth) (consumers_of consumers.now) (scope_of scope.now) form.now (region_at region.entry) (drop from stages.now) v (seen state.old)) result state.new }
+    {
+        match form {
+            StageForm::Iter => self.stage_loop(state, consumers, scope, Iterable::Items(v), region, stages, from),
+            StageForm::Call(name, before, behind) => {
+                let mut given = self.exprs(state, scope, before.as_slice())?;
+                let more = self.exprs(state, scope, behind.as_slice())?;
+                given.push(v)?;
+                given.append(more)?;
+                self.call_stage(state, consumers, scope, name, given, region, stages, from)
+            }
+            StageForm::Print(printed) => {
+                let mut piped = Items::new(self.alloc);
+                piped.push(v)?;
+                self.print_after(state, scope, piped, printed)?;
+                self.through(state, consumers, scope, region, stages, from, Value::Unit)
+            }
+        }
+    }
+
+    /// A stage by name on its arguments, and the stages from a place on.
+    #[cycle(pipeline)]
+    fn call_stage(&self, state: &mut State, consumers: &[Consumer<'_>], scope: &Scope<'_>, name: &Spelling, given: Values, region: Option<&Region>, stages: &Items<Stage>, from: usize) -> Result<Flow, Stop>
+        requires { Nests self.now.program.now self.now.limit self.now.depth (F.pre self.now.low) (F.post self.now.low) }
+        ensures { TellsFlow (stage_called (here self.now.program.now self.now.limit self.now.depth) (consumers_of consumers.now) (scope_of scope.now) (callee (program_of self.now.program.now) (scope_of scope.now) name.now) name.now given (region_at region.entry) (drop from stages.now) (seen state.old)) result state.new }
+    {
+        match resolve(self.program, scope, name) {
+            Callee::Defined(called) => {
+                if called.known.yields {
+                    return self.stage_loop(state, consumers, scope, Iterable::Generated(called, given), region, stages, from);
+                }
+                let v = self.call(state, called, given)?;
+                self.through(state, consumers, scope, region, stages, from, v)
+            }
+            Callee::Constructor(c) => {
+                let v = self.construct(state, c, given)?;
+                self.through(state, consumers, scope, region, stages, from, v)
+            }
+            Callee::Standard(which) => {
+                let v = self.call_builtin(state, which, given)?;
+                self.through(state, consumers, scope, region, stages, from, v)
+            }
+            Callee::Variable => {
+                let _ = read_name(self.alloc, state, scope, name)?;
+                Err(wrong(self.alloc))
+            }
+            Callee::Unknown => Err(fault(self.alloc, FaultKind::Runtime, b"name is not set")),
+        }
+    }
+
+    /// A builtin on values.
+    fn call_builtin(&self, state: &mut State, which: Builtin, given: Values) -> Result<Value, Stop>
+        requires { Nests self.now.program.now self.now.limit self.now.depth (F.pre self.now.low) (F.post self.now.low) }
+        ensures { Tells (call_builtin (here self.now.program.now self.now.limit self.now.depth) (builtin_of which) given (seen state.old)) result state.new }
+    {
+        match which {
+            Builtin::ToList => self.list_of(state, given),
+            other => builtin(self.alloc, state, other, given.as_slice()),
+        }
+    }
+
+    /// `list` of values, of which there is to be one.
+    fn list_of(&self, state: &mut State, given: Values) -> Result<Value, Stop>
+        requires { Nests self.now.program.now self.now.limit self.now.depth (F.pre self.now.low) (F.post self.now.low) }
+        ensures { Tells (call_builtin (here self.now.program.now self.now.limit self.now.depth) ToList given (seen state.old)) result state.new }
+    {
+        let [only] = given.as_slice() else {
+            return builtin(self.alloc, state, Builtin::ToList, given.as_slice());
+        };
+        let v = only.try_clone(self.alloc)?;
+        self.gathered(state, Iterable::Items(v))
+    }
+
+    /// A loop over something, with the stages from a place on that take its items.
+    #[cycle(pipeline)]
+    fn stage_loop(&self, state: &mut State, consumers: &[Consumer<'_>], scope: &Scope<'_>, goes_over: Iterable<'m>, region: Option<&Region>, stages: &Items<Stage>, from: usize) -> Result<Flow, Stop>
+        requires { Nests self.now.program.now self.now.limit self.now.depth (F.pre self.now.low) (F.post self.now.low) }
+        ensures { TellsFlow (stage_loop (here self.now.program.now self.now.limit self.now.depth) (consumers_of consumers.now) (scope_of scope.now) (iterable_of goes_over.entry) (region_at region.entry) (drop from stages.now) (seen state.old)) result state.new }
+    {
+        let flow = self.stage_turns(state, consumers, scope, goes_over, region, stages, from)?;
+        Ok(after_loop(flow))
+    }
+
+    #[cycle(pipeline)]
+    fn stage_turns(&self, state: &mut State, consumers: &[Consumer<'_>], scope: &Scope<'_>, goes_over: Iterable<'m>, region: Option<&Region>, stages: &Items<Stage>, from: usize) -> Result<Flow, Stop>
+        requires { Nests self.now.program.now self.now.limit self.now.depth (F.pre self.now.low) (F.post self.now.low) }
+        ensures { TellsFlow (looped (here self.now.program.now self.now.limit self.now.depth) (consumers_of consumers.now) (iterable_of goes_over.entry) (Stages (scope_of scope.now) (region_at region.entry) (drop from stages.now)) (seen state.old)) result state.new }
+    {
+        match goes_over {
+            Iterable::Generated(called, given) => self.generate(state, consumers, Consumer::Stages(*scope, region, stages, from), called, given),
+            Iterable::Items(container) => self.turns_through(state, consumers, scope, Cursor::Item(container, 0), region, stages, from),
+            Iterable::Numbers(start, stop, step) => {
+                let cursor = begun(self.alloc, state, &start, &stop, &step)?;
+                self.turns_through(state, consumers, scope, cursor, region, stages, from)
+            }
+        }
+    }
+
+    /// The turns of a loop in place.
+    #[cycle(pipeline)]
+    fn turns_through(&self, state: &mut State, consumers: &[Consumer<'_>], scope: &Scope<'_>, begins: Cursor, region: Option<&Region>, stages: &Items<Stage>, from: usize) -> Result<Flow, Stop>
+        requires { Nests self.now.program.now self.now.limit self.now.depth (F.pre self.now.low) (F.post self.now.low) }
+        ensures { TellsFlow (turns_from (here self.now.program.now self.now.limit self.now.depth) (turn_of (here self.now.program.now self.now.limit self.now.depth) (consumers_of consumers.now) (Stages (scope_of scope.now) (region_at region.entry) (drop from stages.now))) begins (seen state.old)) result state.new }
+    {
+        let mut left = left(state, self.limit);
+        let mut cursor = begins;
+        'turns: loop {
+            let Some(item) = next(self.alloc, state, self.limit, cursor)? else {
+                return Ok(ended(End::Next));
+            };
+            let flow = self.through(state, consumers, scope, region, stages, from, item.0)?;
+            if !goes_on(&flow) {
+                return Ok(flow);
+            }
+            if left == 0 {
+                return Err(Stop::OutOfFuel);
+            }
+            left -= 1;
+            cursor = item.1;
+        }
+    }
+}

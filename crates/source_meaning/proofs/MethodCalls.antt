@@ -1,0 +1,84 @@
+-- Calls of methods by what stands at the address of the object.
+use Rattle.std.proofs.Common.{◌≡◌, ℕ, if◌then◌else◌, List, [], ◌∷◌, Option, Some, None, refl, sym, ap, ◌∙◌}
+use Rattle.codon_base.specs.declared.value.Ref.{Ref}
+use Rattle.codon_base.specs.declared.value.Value.{Value, out-Value}
+use Rattle.codon_base.specs.declared.object.Object.{Object}
+use Rattle.codon_base.specs.declared.object.Object.TheVariants.{List as Listed, Instance}
+use Rattle.codon_base.specs.Levels.{object_at}
+use Rattle.source_meaning.specs.State.{Spelling, State}
+use Rattle.source_meaning.specs.Outcome.{Outcome, Gives, Stops, Run, and_then, bind, pure, stop, look, wrong, ◌>>=◌}
+use Rattle.source_meaning.specs.Objects.{ref_in, object, instance_in}
+use Rattle.source_meaning.specs.Operations.{list_method}
+use Rattle.source_meaning.specs.Program.{Known}
+use Rattle.source_meaning.specs.Bodies.{yields}
+use Rattle.source_meaning.specs.Task.{Setting}
+use Rattle.source_meaning.specs.Calls.{call, method_of}
+use Rattle.source_meaning.specs.Loops.{Iterable}
+use Rattle.source_meaning.specs.Expressions.{method_on, call_method, iterable_on, iterable_method, generated_by, items_of}
+use Rattle.source_meaning.specs.Kinds.{kind_of, found_method}
+use Rattle.source_meaning.specs.declared.methods.Kind.{Kind}
+use Rattle.source_meaning.specs.declared.methods.Kind.TheVariants as kind
+
+module _ (here : Setting) (v : Value) (at : Ref) (name : Spelling) (given : List Value) (s : State) (is_at : ref_in (out-Value v) s ≡ Gives at s) where
+  abbrev there : Option Object
+  there = object_at s.shared.levels at
+
+  call_on : call_method here v name given s ≡ method_on here v at name given there s
+  unfolding bind look
+  call_on = ap (λ (o : Outcome Ref). and_then o (λ at. object at >>= method_on here v at name given)) is_at
+
+  goes_on : iterable_method here v name given s ≡ iterable_on here v at name given there s
+  unfolding bind look
+  goes_on = ap (λ (o : Outcome Ref). and_then o (λ at. object at >>= iterable_on here v at name given)) is_at
+
+  -- the method of the object
+  abbrev by_kind : Kind → Outcome Known
+  by_kind kind.List = wrong s
+  by_kind (kind.Instance class) = found_method here.program class name s
+  by_kind kind.Nothing = wrong s
+
+  found_in : (o : Option Object) → and_then (instance_in o s) (λ instance. found_method here.program instance.class name) ≡ by_kind (kind_of o)
+  unfolding pure stop
+  found_in (Some (Listed items)) = refl
+  found_in (Some (Instance class fields)) = refl
+  found_in None = refl
+
+  method_is : method_of here v name s ≡ by_kind (kind_of there)
+  unfolding bind look
+  method_is = ap (λ (o : Outcome Ref). and_then o (λ at. object at >>= instance_in >>= λ instance. found_method here.program instance.class name)) is_at ∙ found_in there
+
+  pub on_list : kind_of there ≡ kind.List → call_method here v name given s ≡ list_method here.rules name at given s
+  on_list h = call_on ∙ by there h
+    where
+      by : (o : Option Object) → kind_of o ≡ kind.List → method_on here v at name given o s ≡ list_method here.rules name at given s
+      by (Some (Listed items)) h = refl
+      by (Some (Instance class fields)) h = cc
+      by None h = cc
+
+  pub goes_list : kind_of there ≡ kind.List → iterable_method here v name given s ≡ items_of (list_method here.rules name at given) s
+  goes_list h = goes_on ∙ by there h
+    where
+      by : (o : Option Object) → kind_of o ≡ kind.List → iterable_on here v at name given o s ≡ items_of (list_method here.rules name at given) s
+      by (Some (Listed items)) h = refl
+      by (Some (Instance class fields)) h = cc
+      by None h = cc
+
+  pub on_instance : (class : ℕ) → kind_of there ≡ kind.Instance class → call_method here v name given s ≡ and_then (found_method here.program class name s) (λ known. call here known (v ∷ given))
+  unfolding bind
+  on_instance class h = call_on ∙ by there h ∙ ap (λ (o : Outcome Known). and_then o (λ known. call here known (v ∷ given))) (method_is ∙ ap by_kind h)
+    where
+      by : (o : Option Object) → kind_of o ≡ kind.Instance class → method_on here v at name given o s ≡ and_then (method_of here v name s) (λ known. call here known (v ∷ given))
+      by (Some (Listed items)) h = cc
+      by (Some (Instance class fields)) h = refl
+      by None h = cc
+
+  pub goes_instance : (class : ℕ) → kind_of there ≡ kind.Instance class → iterable_method here v name given s ≡ and_then (found_method here.program class name s) (generated_by here v given)
+  unfolding bind
+  goes_instance class h = goes_on ∙ by there h ∙ ap (λ (o : Outcome Known). and_then o (generated_by here v given)) (method_is ∙ ap by_kind h)
+    where
+      by : (o : Option Object) → kind_of o ≡ kind.Instance class → iterable_on here v at name given o s ≡ and_then (method_of here v name s) (generated_by here v given)
+      by (Some (Listed items)) h = cc
+      by (Some (Instance class fields)) h = refl
+      by None h = cc
+
+pub ruleset method_rules = (on_list, goes_list, on_instance, goes_instance)

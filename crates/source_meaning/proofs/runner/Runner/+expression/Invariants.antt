@@ -1,0 +1,44 @@
+use Rattle.std.proofs.Common.{◌≡◌, [], suc, drop}
+use Rattle.source_meaning.specs.Iterations.{in_place}
+use Rattle.source_meaning.specs.Loops.{turns}
+use Rattle.source_meaning.specs.Cursors.{next_by}
+use Rattle.source_meaning.specs.Meaning.{turn_of}
+use Rattle.source_meaning.specs.Steps.{turns_from}
+use Rattle.source_meaning.specs.Task.{Comprehension}
+use Rattle.source_meaning.specs.Expressions as spec
+use Rattle.source_meaning.specs.Lists as lists
+use Rattle.source_meaning.specs.Collected.{collect}
+use Rattle.source_meaning.specs.Seen.{seen}
+use Rattle.source_meaning.specs.Scopes.{scope_of}
+use Rattle.source_meaning.specs.Tasks.{here}
+use Rattle.source_meaning.proofs.Rest.{after}
+use Rattle.source_meaning.proofs.runner.Runner.+expression.Given as goal
+
+abbrev pub invariant-exprs-items : goal.invariant-exprs-items
+invariant-exprs-items g l =
+    let at = here l.self.program.now l.self.limit l.self.depth in
+    spec.exprs at (scope_of l.scope) l.items (seen l.fn.state) ≡ after l.done (collect (spec.expr at (scope_of l.scope)) (drop l.e-index l.items) (seen l.state))
+
+abbrev pub invariant-some_true-operands : goal.invariant-some_true-operands
+invariant-some_true-operands g l =
+    let at = here l.self.program.now l.self.limit l.self.depth in
+    lists.some_true at (scope_of l.scope) l.operands (seen l.fn.state) ≡ lists.some_true at (scope_of l.scope) (drop l.e-index l.operands) (seen l.state)
+
+abbrev pub invariant-all_true-operands : goal.invariant-all_true-operands
+invariant-all_true-operands g l =
+    let at = here l.self.program.now l.self.limit l.self.depth in
+    lists.all_true at (scope_of l.scope) l.operands (seen l.fn.state) ≡ lists.all_true at (scope_of l.scope) (drop l.e-index l.operands) (seen l.state)
+
+abbrev pub invariant-chain-chain : goal.invariant-chain-chain
+invariant-chain-chain g l =
+    let at = here l.self.program.now l.self.limit l.self.depth in
+    lists.chained at (scope_of l.scope) l.others l.fn.first (seen l.fn.state) ≡ lists.chained at (scope_of l.scope) (drop l.each-index l.others) l.v (seen l.state)
+
+abbrev pub invariant-gather_turns-turns : goal.invariant-gather_turns-turns
+invariant-gather_turns-turns g l =
+    let at = here l.self.program.now l.self.limit l.self.depth in
+    let turn = turn_of at [] (Comprehension (scope_of l.inner) l.names l.condition l.gathered l.list) in
+    turns_from at turn l.fn.from (seen l.fn.state) ≡ turns (next_by in_place l.self.limit) turn (suc l.left) l.cursor (seen l.state)
+
+abbrev pub decreases-gather_turns-turns : goal.decreases-gather_turns-turns
+decreases-gather_turns-turns g l = l.left

@@ -1,0 +1,41 @@
+use Rattle.std.proofs.Common.{◌≡◌, suc, drop}
+use Rattle.source_meaning.specs.Expressions.{condition}
+use Rattle.source_meaning.specs.Iterations.{in_place}
+use Rattle.source_meaning.specs.Loops.{turns, while_next}
+use Rattle.source_meaning.specs.Cursors.{next_by}
+use Rattle.source_meaning.specs.Statements.{statements}
+use Rattle.source_meaning.specs.Meaning.{turn_of}
+use Rattle.source_meaning.specs.Steps.{chosen, while_of, turns_from}
+use Rattle.source_meaning.specs.Seen.{seen}
+use Rattle.source_meaning.specs.Scopes.{scope_of}
+use Rattle.source_meaning.specs.Task.{Body}
+use Rattle.source_meaning.specs.Tasks.{here, consumers_of}
+use Rattle.source_meaning.proofs.runner.Runner.+statement.Given as goal
+
+abbrev pub invariant-block-statements : goal.invariant-block-statements
+invariant-block-statements g l =
+    let at = here l.self.program.now l.self.limit l.self.depth in
+    statements at (consumers_of l.consumers) (scope_of l.scope) l.each-items (seen l.fn.state) ≡ statements at (consumers_of l.consumers) (scope_of l.scope) (drop l.each-index l.each-items) (seen l.state)
+
+abbrev pub invariant-choose-arms : goal.invariant-choose-arms
+invariant-choose-arms g l =
+    let at = here l.self.program.now l.self.limit l.self.depth in
+    chosen at (consumers_of l.consumers) (scope_of l.scope) l.arms l.otherwise (seen l.fn.state) ≡ chosen at (consumers_of l.consumers) (scope_of l.scope) (drop l.arm-index l.arms) l.otherwise (seen l.state)
+
+abbrev pub invariant-while_loop-turns : goal.invariant-while_loop-turns
+invariant-while_loop-turns g l =
+    let at = here l.self.program.now l.self.limit l.self.depth in
+    while_of at (consumers_of l.consumers) (scope_of l.scope) l.e l.body (seen l.fn.state)
+    ≡ turns (while_next l.self.limit (condition at (scope_of l.scope) l.e)) (λ _. statements at (consumers_of l.consumers) (scope_of l.scope) l.body) (suc l.left) tt (seen l.state)
+
+abbrev pub decreases-while_loop-turns : goal.decreases-while_loop-turns
+decreases-while_loop-turns g l = l.left
+
+abbrev pub invariant-body_turns-turns : goal.invariant-body_turns-turns
+invariant-body_turns-turns g l =
+    let at = here l.self.program.now l.self.limit l.self.depth in
+    let turn = turn_of at (consumers_of l.consumers) (Body (scope_of l.scope) l.l.names l.l.body) in
+    turns_from at turn l.fn.from (seen l.fn.state) ≡ turns (next_by in_place l.self.limit) turn (suc l.left) l.cursor (seen l.state)
+
+abbrev pub decreases-body_turns-turns : goal.decreases-body_turns-turns
+decreases-body_turns-turns g l = l.left

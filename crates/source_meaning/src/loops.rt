@@ -1,0 +1,110 @@
+#![tactic(auto, unfolding(crate::specs::Outcome::bind, crate::specs::Outcome::pure, crate::specs::Outcome::stop, crate::specs::Outcome::generating, crate::specs::Outcome::suspended, crate::specs::Frames::taken))]
+
+ghost use Rattle.std.specs.Prelude.{◌≡◌, ◌∷◌, IfOk};
+ghost use Rattle.source_meaning.specs.Loops as spec;
+ghost use Rattle.source_meaning.specs.Steps.{generated};
+ghost use Rattle.source_meaning.specs.Seen.{seen, TellsFlow};
+ghost use Rattle.source_meaning.specs.Tasks.{Nests, here, known_of, consumer_of, consumers_of};
+
+use crate::arguments::{arguments, parameters};
+use crate::flow::{Flow, closed, yielded};
+use crate::frames::{wait, wake};
+use crate::prepared::{Called, Prepared};
+use crate::runner::Runner;
+use crate::state::{State, Stop};
+use crate::task::{Consumer, Task};
+use crate::variables::{tick, wrong};
+use codon_base::{Memory, Value, Values};
+use std::alloc::Global;
+
+/// The consumers, with one more inside.
+fn inside<'a>(
+    alloc: Global,
+    top: Consumer<'a>,
+    consumers: &[Consumer<'a>],
+) -> Result<Vec<Consumer<'a>>, Memory>
+    ensures { IfOk result (λ all. all.items ≡ top.entry ∷ consumers.now) }
+{
+    let mut all = Vec::new(alloc);
+    all.push(top)?;
+    'consumers: for each in consumers {
+        all.push(*each)?;
+    }
+    Ok(all)
+}
+
+impl<
+    'm,
+    F: Fn(
+        Global,
+        &Prepared<'_>,
+        u64,
+        u32,
+        &mut State,
+        &[Consumer<'_>],
+        Task<'_>,
+    ) -> Result<Flow, Stop>,
+> Runner<'m, F> {
+    /// A loop over a call of a generator, whose body gives its items to a consumer.
+    pub(crate) fn generate(
+        &self,
+        state: &mut State,
+        consumers: &[Consumer<'_>],
+        consumer: Consumer<'_>,
+        called: Called<'_>,
+        given: Values,
+    ) -> Result<Flow, Stop>
+        requires { Nests self.now.program.now self.now.limit self.now.depth (F.pre self.now.low) (F.post self.now.low) }
+        ensures { TellsFlow (generated (here self.now.program.now self.now.limit self.now.depth) (consumers_of consumers.now) (consumer_of consumer.entry) (known_of called.entry) given (seen state.old)) result state.new }
+    {
+        let Some(given) = arguments(self.alloc, called.known.function.params.as_slice(), given)?
+        else {
+            return Err(wrong(self.alloc));
+        };
+        self.generate_by(state, consumers, consumer, called, given.as_slice())
+    }
+
+    fn generate_by(
+        &self,
+        state: &mut State,
+        consumers: &[Consumer<'_>],
+        consumer: Consumer<'_>,
+        called: Called<'_>,
+        given: &[Value],
+    ) -> Result<Flow, Stop>
+        requires { Nests self.now.program.now self.now.limit self.now.depth (F.pre self.now.low) (F.post self.now.low) }
+        ensures { TellsFlow (spec.generate (here self.now.program.now self.now.limit self.now.depth) (consumers_of consumers.now) (consumer_of consumer.entry) (known_of called.entry) given.now (seen state.old)) result state.new }
+    {
+        tick(state, self.limit)?;
+        let names = parameters(self.alloc, called.known.function.params.as_slice(), given)?;
+        let all = inside(self.alloc, consumer, consumers)?;
+        wait(state, names)?;
+        let flow = self.deeper(
+            state,
+            &all,
+            Task::Enter(called.scope(), &called.known.function.body),
+        )?;
+        let _ = wake(self.alloc, state)?;
+        Ok(closed(flow))
+    }
+
+    /// Gives an item to the consumer round the body of a generator.
+    pub(crate) fn give(
+        &self,
+        state: &mut State,
+        consumers: &[Consumer<'_>],
+        v: Value,
+    ) -> Result<Flow, Stop>
+        requires { Nests self.now.program.now self.now.limit self.now.depth (F.pre self.now.low) (F.post self.now.low) }
+        ensures { TellsFlow (spec.yield (here self.now.program.now self.now.limit self.now.depth) (consumers_of consumers.now) v (seen state.old)) result state.new }
+    {
+        let [consumer, below @ ..] = consumers else {
+            return Err(wrong(self.alloc));
+        };
+        let own = wake(self.alloc, state)?;
+        tick(state, self.limit)?;
+        let flow = self.deeper(state, below, Task::Turn(*consumer, v))?;
+        wait(state, own)?;
+        Ok(yielded(flow)?)
+    }
+}

@@ -1,0 +1,156 @@
+#![tactic(auto, unfolding(crate::specs::Outcome::bind, crate::specs::Outcome::pure, crate::specs::Outcome::stop), using(crate::proofs::MethodCalls::method_rules))]
+
+ghost use Rattle.std.specs.Prelude.{◌≡◌, []};
+ghost use Rattle.source_meaning.specs.Calls as calls;
+ghost use Rattle.source_meaning.specs.Expressions as spec;
+ghost use Rattle.source_meaning.specs.Meaning.{turn_of};
+ghost use Rattle.codon_base.specs.Levels.{object_at};
+ghost use Rattle.source_meaning.specs.Kinds.{kind_of, found_method};
+ghost use Rattle.source_meaning.specs.Seen.{seen, Tells, TellsBy, TellsAtBy, TellsFlow};
+ghost use Rattle.source_meaning.specs.Steps.{iterable_of, looped, turns_from};
+ghost use Rattle.source_meaning.specs.Task.{Gathered};
+ghost use Rattle.source_meaning.specs.Tasks.{Nests, here, known_of, program_of};
+
+use crate::callee::function_named;
+use crate::cursor::{begun, next};
+use crate::flow::{End, Flow, ended, goes_on};
+use crate::iterable::{Cursor, Iterable};
+use crate::objects::{allocate, append, ref_in};
+use crate::operations::list_method;
+use crate::prepared::{Called, Prepared};
+use crate::returns::with_first;
+use crate::runner::Runner;
+use crate::state::{State, Stop};
+use crate::task::{Consumer, Task};
+use crate::variables::{left, wrong};
+use codon_base::{Holder, Object, Ref, Spelling, Value, Values};
+use sqlite_items::Items;
+use std::alloc::Global;
+
+/// What stands at an address.
+enum Kind {
+    List,
+    Instance(u32),
+    Nothing,
+}
+
+#[tactic(auto, unfolding(crate::specs::Seen::seen))]
+fn kind_at(state: &State, at: Ref) -> Kind
+    ensures { result ≡ kind_of (object_at (seen state.now).shared.levels at) }
+{
+    match state.store.heap.get(at) {
+        Some(Object::List(_)) => Kind::List,
+        Some(Object::Instance { class, .. }) => Kind::Instance(*class),
+        None => Kind::Nothing,
+    }
+}
+
+impl<'m, F: Fn(Global, &Prepared<'_>, u64, u32, &mut State, &[Consumer<'_>], Task<'_>) -> Result<Flow, Stop>> Runner<'m, F> {
+    /// The method of an instance of that class.
+    fn method_in(&self, class: u32, name: &Spelling) -> Result<Called<'m>, Stop>
+        ensures { (s : _) → TellsAtBy known_of (found_method (program_of self.now.program.now) class name.now s) result s }
+    {
+        let Some(c) = self.program.classes.get(class as usize) else {
+            return Err(wrong(self.alloc));
+        };
+        match function_named(name, &c.methods) {
+            Some(known) => Ok(Called { known, in_prelude: false }),
+            None => Err(wrong(self.alloc)),
+        }
+    }
+
+    /// `v.name(given)`.
+    pub(crate) fn call_method(&self, state: &mut State, v: Value, name: &Spelling, given: Values) -> Result<Value, Stop>
+        requires { Nests self.now.program.now self.now.limit self.now.depth (F.pre self.now.low) (F.post self.now.low) }
+        ensures { Tells (spec.call_method (here self.now.program.now self.now.limit self.now.depth) v name.now given (seen state.old)) result state.new }
+    {
+        let at = ref_in(self.alloc, state, &v)?;
+        match kind_at(state, at) {
+            Kind::List => list_method(self.alloc, state, name, at, given),
+            Kind::Instance(class) => {
+                let called = self.method_in(class, name)?;
+                let given = with_first(self.alloc, v, given)?;
+                self.call(state, called, given)
+            }
+            Kind::Nothing => Err(wrong(self.alloc)),
+        }
+    }
+
+    /// What a loop goes over that `v.name(given)` gives.
+    pub(crate) fn iterable_method(&self, state: &mut State, v: Value, name: &Spelling, given: Values) -> Result<Iterable<'m>, Stop>
+        requires { Nests self.now.program.now self.now.limit self.now.depth (F.pre self.now.low) (F.post self.now.low) }
+        ensures { TellsBy iterable_of (spec.iterable_method (here self.now.program.now self.now.limit self.now.depth) v name.now given (seen state.old)) result state.new }
+    {
+        let at = ref_in(self.alloc, state, &v)?;
+        match kind_at(state, at) {
+            Kind::List => {
+                let items = list_method(self.alloc, state, name, at, given)?;
+                Ok(Iterable::Items(items))
+            }
+            Kind::Instance(class) => {
+                let called = self.method_in(class, name)?;
+                let given = with_first(self.alloc, v, given)?;
+                if called.known.yields {
+                    return Ok(Iterable::Generated(called, given));
+                }
+                let items = self.call(state, called, given)?;
+                Ok(Iterable::Items(items))
+            }
+            Kind::Nothing => Err(wrong(self.alloc)),
+        }
+    }
+
+    /// Puts an item at the end of a list that is gathered.
+    pub(crate) fn append_to(&self, state: &mut State, list: &Value, v: Value) -> Result<Flow, Stop>
+        ensures { TellsFlow (spec.append_to (here self.now.program.now self.now.limit self.now.depth) list.now v (seen state.old)) result state.new }
+    {
+        let at = ref_in(self.alloc, state, list)?;
+        append(self.alloc, state, at, v)?;
+        Ok(ended(End::Next))
+    }
+
+    /// A list of all that a loop goes over.
+    pub(crate) fn gathered(&self, state: &mut State, goes_over: Iterable<'m>) -> Result<Value, Stop>
+        requires { Nests self.now.program.now self.now.limit self.now.depth (F.pre self.now.low) (F.post self.now.low) }
+        ensures { Tells (spec.gathered (here self.now.program.now self.now.limit self.now.depth) (iterable_of goes_over.entry) (seen state.old)) result state.new }
+    {
+        let list = allocate(state, Object::List(Items::new(self.alloc)))?;
+        let _ = self.gather_into(state, &list, goes_over)?;
+        Ok(list)
+    }
+
+    fn gather_into(&self, state: &mut State, list: &Value, goes_over: Iterable<'m>) -> Result<Flow, Stop>
+        requires { Nests self.now.program.now self.now.limit self.now.depth (F.pre self.now.low) (F.post self.now.low) }
+        ensures { TellsFlow (looped (here self.now.program.now self.now.limit self.now.depth) [] (iterable_of goes_over.entry) (Gathered list.now) (seen state.old)) result state.new }
+    {
+        match goes_over {
+            Iterable::Generated(called, given) => self.generate(state, &[], Consumer::Gathered(list), called, given),
+            Iterable::Items(container) => self.append_turns(state, list, Cursor::Item(container, 0)),
+            Iterable::Numbers(start, stop, step) => {
+                let cursor = begun(self.alloc, state, &start, &stop, &step)?;
+                self.append_turns(state, list, cursor)
+            }
+        }
+    }
+
+    fn append_turns(&self, state: &mut State, list: &Value, from: Cursor) -> Result<Flow, Stop>
+        ensures { TellsFlow (turns_from (here self.now.program.now self.now.limit self.now.depth) (turn_of (here self.now.program.now self.now.limit self.now.depth) [] (Gathered list.now)) from (seen state.old)) result state.new }
+    {
+        let mut left = left(state, self.limit);
+        let mut cursor = from;
+        'turns: loop {
+            let Some(item) = next(self.alloc, state, self.limit, cursor)? else {
+                return Ok(ended(End::Next));
+            };
+            let flow = self.append_to(state, list, item.0)?;
+            if !goes_on(&flow) {
+                return Ok(flow);
+            }
+            if left == 0 {
+                return Err(Stop::OutOfFuel);
+            }
+            left -= 1;
+            cursor = item.1;
+        }
+    }
+}
