@@ -7,13 +7,14 @@ mod lists;
 mod names;
 mod pipelines;
 mod regions;
+mod stack;
 mod statements;
 mod ticks;
 
 use crate::{PlainEnd, run_plain};
+use build::Trees;
 use codon_base::{Ending, FaultKind};
 use source_trees::Module;
-use std::alloc::Global;
 use std::process::Abort;
 use std::test::Fail;
 
@@ -39,8 +40,10 @@ pub fn fault<'a>(kind: FaultKind, text: &'a [u8]) -> Wanted<'a> {
     Wanted::Fault(kind, text)
 }
 
-fn expect<R: Abort>(rt: &R, alloc: Global, module: &Module, case: Case<'_>) -> Result<(), Fail> {
-    let plain = run_plain(alloc, module, case.fuel, case.depth)?;
+/// Runs a module, and compares what came of it.
+fn expect<R: Abort>(t: &Trees<'_, R>, module: Module, case: Case<'_>) -> Result<(), Fail> {
+    let rt = t.rt;
+    let plain = run_plain(t.alloc, &module, case.fuel, case.depth)?;
     assert_eq!(rt; plain.out.as_slice(), case.out);
     match (&plain.end, case.end) {
         (PlainEnd::Ended(Ending::Done), Wanted::Done) => Ok(()),

@@ -39,7 +39,7 @@ impl<'a, R: Abort> Trees<'a, R> {
         Items::from_vec(Vec::from_array(self.alloc, parts).expect(self.rt, "memory"))
     }
 
-    fn part(&self, e: Expr) -> Boxed<Expr> {
+    pub fn part(&self, e: Expr) -> Boxed<Expr> {
         Boxed::new(self.alloc, e).expect(self.rt, "memory")
     }
 }
