@@ -1,85 +1,180 @@
+#![tactic(auto, unfolding(crate::specs::Outcome::bind, crate::specs::Outcome::pure, crate::specs::Outcome::stop))]
+
 ghost use Rattle.std.specs.Prelude.{pos};
 ghost use Rattle.codon_base.specs.declared.value.Value.{out-Value};
 ghost use Rattle.source_meaning.specs.Objects as spec;
 ghost use Rattle.source_meaning.specs.Iterations.{in_place};
-ghost use Rattle.source_meaning.specs.Seen.{seen, Tells};
+ghost use Rattle.source_meaning.specs.Seen.{seen, Tells, TellsAt};
 ghost use Rattle.source_meaning.specs.Tasks.{program_of};
+ghost use Rattle.value_operators.specs.Answers.{made_of};
 
+use crate::changes::{push_to, put_at, set_field_at};
+use crate::fields::{allow_field, field_place, instance_at, set_value};
+use crate::lists::{bounded, found_in_list, index_fault, item_of_list, list_at, list_part, used_place};
 use crate::prepared::Prepared;
 use crate::state::{State, Stop};
-use codon_base::{Object, Ref, Spelling, Value, Values};
+use crate::variables::wrong;
+use codon_base::{Object, Ref, Spelling, Text, Value, Values};
 use std::alloc::Global;
+use value_operators::{Made, place_of};
 
 /// A new object on the last level of the heap.
 pub(crate) fn allocate(state: &mut State, object: Object) -> Result<Value, Stop>
     ensures { Tells (spec.allocate object (seen state.old)) result state.new }
 {
-    let _ = object;
-    Err(Stop::Memory)
+    match state.store.heap.add(object) {
+        Ok(at) => Ok(Value::Ref(at)),
+        Err(_) => Err(Stop::Memory),
+    }
+}
+
+/// What comes of what an operator made: a value, a new list or a fault.
+pub(crate) fn settled(state: &mut State, made: Made) -> Result<Value, Stop>
+    ensures { Tells (spec.settled (made_of made) (seen state.old)) result state.new }
+{
+    match made {
+        Made::Value(v) => Ok(v),
+        Made::List(items) => allocate(state, Object::List(items)),
+        Made::Fault(fault) => Err(Stop::Faulted(fault)),
+    }
 }
 
 /// `container[index]`.
 pub(crate) fn item_at(alloc: Global, state: &State, container: &Value, index: &Value) -> Result<Value, Stop>
     ensures { Tells (spec.item_at in_place container.now index.now (seen state.now)) result state.now }
 {
-    Err(Stop::Memory)
+    let index = int_in(alloc, state, index)?;
+    match container {
+        Value::Ref(at) => item_of_list(alloc, state, *at, index),
+        Value::Text(text) => character_at(alloc, text, index),
+        Value::Tuple(items) => tuple_item(alloc, items.as_slice(), index),
+        _ => Err(wrong(alloc)),
+    }
+}
+
+/// The text of the character that an index names.
+fn character_at(alloc: Global, text: &Text, index: i64) -> Result<Value, Stop>
+{
+    match place_of(text.len(), index) {
+        Some(place) => Ok(Value::Text(text.slice(alloc, place, place + 1)?)),
+        None => Err(index_fault(alloc)),
+    }
+}
+
+/// The item of a tuple that an index names.
+fn tuple_item(alloc: Global, items: &[Value], index: i64) -> Result<Value, Stop>
+{
+    let Some(place) = place_of(items.len(), index) else {
+        return Err(index_fault(alloc));
+    };
+    match items.get(place) {
+        Some(item) => Ok(item.try_clone(alloc)?),
+        None => Err(index_fault(alloc)),
+    }
 }
 
 /// `container[index] = v`.
 pub(crate) fn put(alloc: Global, state: &mut State, container: &Value, index: &Value, v: Value) -> Result<(), Stop>
     ensures { Tells (spec.put in_place container.now index.now v (seen state.old)) result state.new }
 {
-    let _ = v;
-    Err(Stop::Memory)
+    let at = ref_in(alloc, state, container)?;
+    let size = list_at(alloc, state, at)?.len();
+    let index = int_in(alloc, state, index)?;
+    let place = used_place(alloc, state, at, size, index)?;
+    put_at(alloc, state, at, place, v)
 }
 
 /// The item that a loop over a list or a text finds at a place, where there is one.
 pub(crate) fn found_at(alloc: Global, state: &State, container: &Value, place: u64) -> Result<Option<Value>, Stop>
     ensures { Tells (spec.found_at in_place container.now place (seen state.now)) result state.now }
 {
-    Err(Stop::Memory)
+    match container {
+        Value::Ref(at) => found_in_list(alloc, state, *at, place),
+        Value::Text(text) => found_in_text(alloc, text, place),
+        _ => Err(wrong(alloc)),
+    }
+}
+
+/// The text of the character at a place, where there is one.
+fn found_in_text(alloc: Global, text: &Text, place: u64) -> Result<Option<Value>, Stop>
+{
+    if place >= text.len() as u64 {
+        return Ok(None);
+    }
+    let place = place as usize;
+    let character = text.slice(alloc, place, place + 1)?;
+    Ok(Some(Value::Text(character)))
 }
 
 /// `v[from:to]`.
 pub(crate) fn slice(alloc: Global, state: &mut State, v: &Value, from: &Value, to: &Value) -> Result<Value, Stop>
     ensures { Tells (spec.slice in_place (out-Value v.now) from.now to.now (seen state.old)) result state.new }
 {
-    Err(Stop::Memory)
+    match v {
+        Value::Text(text) => text_part(alloc, text, from, to),
+        Value::Ref(at) => {
+            let items = list_part(alloc, state, *at, from, to)?;
+            allocate(state, Object::List(items))
+        }
+        _ => Err(wrong(alloc)),
+    }
+}
+
+/// A part of a text.
+fn text_part(alloc: Global, text: &Text, from: &Value, to: &Value) -> Result<Value, Stop>
+{
+    let start = bounded(alloc, 0, text.len(), from)?;
+    let stop = bounded(alloc, text.len(), text.len(), to)?;
+    Ok(Value::Text(text.slice(alloc, start, stop)?))
 }
 
 /// Puts an item at the end of a list.
 pub(crate) fn append(alloc: Global, state: &mut State, at: Ref, v: Value) -> Result<(), Stop>
     ensures { Tells (spec.append at v (seen state.old)) result state.new }
 {
-    let _ = v;
-    Err(Stop::Memory)
+    push_to(alloc, state, at, v)
 }
 
 /// `v.name`.
 pub(crate) fn field(alloc: Global, state: &State, program: &Prepared<'_>, v: &Value, name: &Spelling) -> Result<Value, Stop>
     ensures { Tells (spec.field (program_of program.now) v.now name.now (seen state.now)) result state.now }
 {
-    Err(Stop::Memory)
+    let at = ref_in(alloc, state, v)?;
+    let instance = instance_at(alloc, state, at)?;
+    let place = field_place(alloc, program, instance.class, name)?;
+    set_value(alloc, instance.fields, place)
 }
 
 /// `v.name = new`.
 pub(crate) fn set_field(alloc: Global, state: &mut State, program: &Prepared<'_>, v: &Value, name: &Spelling, new: Value) -> Result<(), Stop>
     ensures { Tells (spec.set_field (program_of program.now) in_place v.now name.now new (seen state.old)) result state.new }
 {
-    let _ = new;
-    Err(Stop::Memory)
+    let at = ref_in(alloc, state, v)?;
+    let instance = instance_at(alloc, state, at)?;
+    let place = field_place(alloc, program, instance.class, name)?;
+    if place >= instance.fields.len() {
+        return Err(wrong(alloc));
+    }
+    allow_field(alloc, state, at, place)?;
+    set_field_at(alloc, state, at, place, new)
 }
 
 /// The address in a value.
 pub(crate) fn ref_in(alloc: Global, state: &State, v: &Value) -> Result<Ref, Stop>
     ensures { Tells (spec.ref_in (out-Value v.now) (seen state.now)) result state.now }
 {
-    Err(Stop::Memory)
+    match v {
+        Value::Ref(at) => Ok(*at),
+        _ => Err(wrong(alloc)),
+    }
 }
 
 /// The number in a value.
 pub(crate) fn int_in(alloc: Global, state: &State, v: &Value) -> Result<i64, Stop>
     ensures { Tells (spec.int_in (out-Value v.now) (seen state.now)) result state.now }
 {
-    Err(Stop::Memory)
+    match v {
+        Value::Int(number) => Ok(*number),
+        _ => Err(wrong(alloc)),
+    }
 }

@@ -1,0 +1,93 @@
+#![tactic(auto, unfolding(crate::specs::Outcome::bind, crate::specs::Outcome::pure, crate::specs::Outcome::stop))]
+
+ghost use Rattle.std.specs.Prelude.{◌≡◌, codes};
+ghost use Rattle.codon_base.specs.declared.value.Value.{out-Value};
+ghost use Rattle.codon_base.specs.declared.fault.FaultKind.TheVariants as kind;
+ghost use Rattle.source_meaning.specs.Objects as spec;
+ghost use Rattle.source_meaning.specs.Program.{place_named};
+ghost use Rattle.source_meaning.specs.Iterations.{in_place};
+ghost use Rattle.source_meaning.specs.Seen.{seen, Tells, TellsAt, TellsBy};
+ghost use Rattle.source_meaning.specs.Sights.{instanced_of};
+ghost use Rattle.source_meaning.specs.Task.{Field};
+ghost use Rattle.source_meaning.specs.Tasks.{program_of};
+
+use crate::names::same;
+use crate::prepared::Prepared;
+use crate::sight::is_target;
+use crate::state::{State, Stop};
+use crate::variables::{fault, wrong};
+use codon_base::{FaultKind, Holder, Object, Ref, Spelling, Value};
+use std::alloc::Global;
+
+/// An instance by the number of its class and its fields.
+#[derive(Clone, Copy)]
+pub(crate) struct Instanced<'s> {
+    pub(crate) class: u32,
+    pub(crate) fields: &'s [Value],
+}
+
+/// The instance at an address.
+pub(crate) fn instance_at<'s>(
+    alloc: Global,
+    state: &'s State,
+    at: Ref,
+) -> Result<Instanced<'s>, Stop>
+    ensures { TellsBy instanced_of (spec.instance_at at (seen state.now)) result state.now }
+{
+    match state.store.heap.get(at) {
+        Some(Object::Instance { class, fields }) => Ok(Instanced {
+            class: *class,
+            fields: fields.as_slice(),
+        }),
+        _ => Err(wrong(alloc)),
+    }
+}
+
+/// The place of a name among others.
+fn place_named(name: &Spelling, names: &[Spelling]) -> Option<usize>
+    ensures { result ≡ place_named name.now names.now }
+{
+    names.iter().position(|other| same(name, other))
+}
+
+/// The place of a field in the instances of a class.
+pub(crate) fn field_place(
+    alloc: Global,
+    program: &Prepared<'_>,
+    number: u32,
+    name: &Spelling,
+) -> Result<usize, Stop>
+    ensures { (s : _) → TellsAt (spec.field_place (program_of program.now) number name.now s) result s }
+{
+    let Some(class) = program.classes.get(number as usize) else {
+        return Err(wrong(alloc));
+    };
+    match place_named(name, class.fields.as_slice()) {
+        Some(place) => Ok(place),
+        None => Err(wrong(alloc)),
+    }
+}
+
+/// The field at a place, which is a fault where it was never set.
+pub(crate) fn set_value(alloc: Global, fields: &[Value], place: usize) -> Result<Value, Stop> {
+    match fields.get(place) {
+        None => Err(wrong(alloc)),
+        Some(Value::Unset) => Err(fault(alloc, FaultKind::Runtime, b"field is not set")),
+        Some(v) => Ok(v.try_clone(alloc)?),
+    }
+}
+
+/// Whether the iterations that run may write a field of an instance.
+pub(crate) fn allow_field(alloc: Global, state: &State, at: Ref, place: usize) -> Result<(), Stop>
+    ensures { Tells (spec.allow in_place (Field at place) (seen state.now)) result state.now }
+{
+    if is_target(state.store.iterations.as_slice(), at) {
+        Ok(())
+    } else {
+        Err(fault(
+            alloc,
+            FaultKind::ParallelConflict,
+            b"object is not captured",
+        ))
+    }
+}
