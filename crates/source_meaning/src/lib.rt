@@ -26,6 +26,7 @@ mod prepared;
 mod printing;
 mod ranges;
 mod reach;
+mod regions;
 mod returns;
 mod runner;
 mod scope;
