@@ -36,4 +36,5 @@ pub mod Pieces
 pub mod Reaching
 pub mod Sights
 pub mod Stages
+pub mod Regions
 pub mod Plain

@@ -35,7 +35,8 @@ pub(crate) fn enter_iteration(
     region: &Region,
     item: Value,
 ) -> Result<Saved, Stop>
-    ensures { TellsBy saved_of (entering (region_of region.now) item (seen state.old)) result state.new }
+    ensures told { TellsBy saved_of (entering (region_of region.now) item (seen state.old)) result state.new }
+    ensures above { OnOk result (1 < length (seen state.new).shared.levels) }
 {
     let Some(reached) = state.reached.checked_add(1) else {
         return Err(Stop::Memory);

@@ -29,6 +29,7 @@ mod prepared;
 mod printing;
 mod ranges;
 mod reach;
+mod regions;
 mod returns;
 mod runner;
 mod scope;

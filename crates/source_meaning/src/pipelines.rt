@@ -8,28 +8,72 @@ ghost use Rattle.source_meaning.specs.Meaning.{turn_of};
 ghost use Rattle.source_meaning.specs.Program.{callee, ToList};
 ghost use Rattle.source_meaning.specs.Scopes.{scope_of};
 ghost use Rattle.source_meaning.specs.Seen.{seen, Tells, TellsFlow};
-ghost use Rattle.source_meaning.specs.Stages.{staged, stage_called, stage_loop};
+ghost use Rattle.source_meaning.specs.Regions.{headed_inside, staged_apart, staged_inside};
+ghost use Rattle.source_meaning.specs.Stages.{staged, staged_ahead, stage_called, stage_loop};
 ghost use Rattle.source_meaning.specs.Steps.{iterable_of, looped, turns_from};
 ghost use Rattle.source_meaning.specs.Task.{Stages};
-ghost use Rattle.source_meaning.specs.Tasks.{Nests, here, consumers_of, region_at, program_of};
+ghost use Rattle.source_meaning.specs.Tasks.{Nests, here, consumers_of, region_at, region_of, program_of};
 
+use crate::captures::begin_stages;
 use crate::callee::{Builtin, Callee, resolve};
 use crate::cursor::{begun, next};
 use crate::flow::{End, Flow, after_loop, ended, goes_on};
 use crate::iterable::{Cursor, Iterable};
+use crate::iterations::{enter_iteration, finish_region, leave_iteration, start_region};
 use crate::operations::builtin;
 use crate::prepared::Prepared;
 use crate::runner::Runner;
 use crate::scope::Scope;
+use crate::stages::parallel_place;
 use crate::state::{State, Stop};
 use crate::task::{Consumer, Region, Task};
-use crate::variables::{fault, left, read_name, wrong};
+use crate::variables::{fault, left, read_name, tick, wrong};
 use codon_base::{FaultKind, Spelling, Value, Values};
-use source_trees::{Joint, Stage, StageForm};
+use source_trees::{Expr, Joint, Stage, StageForm};
 use sqlite_items::Items;
 use std::alloc::Global;
 
 impl<'m, F: Fn(Global, &Prepared<'_>, u64, u32, &mut State, &[Consumer<'_>], Task<'_>) -> Result<Flow, Stop>> Runner<'m, F> {
+    /// A pipeline statement.
+    pub(crate) fn pipeline(&self, state: &mut State, consumers: &[Consumer<'_>], scope: &Scope<'_>, head: &Expr, stages: &Items<Stage>) -> Result<Flow, Stop>
+        requires { Nests self.now.program.now self.now.limit self.now.depth (F.pre self.now.low) (F.post self.now.low) }
+        ensures { TellsFlow (spec.pipeline (here self.now.program.now self.now.limit self.now.depth) (consumers_of consumers.now) (scope_of scope.now) head.now stages.now (seen state.old)) result state.new }
+    {
+        match parallel_place(stages.as_slice(), 0) {
+            Some(place) => {
+                let region = begin_stages(self.alloc, state, self.program, scope, stages, place)?;
+                self.pipeline_inside(state, consumers, scope, head, stages, &region)
+            }
+            None => self.from_head(state, consumers, scope, head, stages, None),
+        }
+    }
+
+    /// A pipeline in a region that begins.
+    fn pipeline_inside(&self, state: &mut State, consumers: &[Consumer<'_>], scope: &Scope<'_>, head: &Expr, stages: &Items<Stage>, region: &Region) -> Result<Flow, Stop>
+        requires { Nests self.now.program.now self.now.limit self.now.depth (F.pre self.now.low) (F.post self.now.low) }
+        ensures { TellsFlow (headed_inside (here self.now.program.now self.now.limit self.now.depth) (consumers_of consumers.now) (scope_of scope.now) head.now stages.now (region_of region.now) (seen state.old)) result state.new }
+    {
+        let begun = start_region(state);
+        let flow = self.from_head(state, consumers, scope, head, stages, Some(region))?;
+        finish_region(state, begun, &flow)?;
+        Ok(flow)
+    }
+
+    /// The head of a pipeline with its stages.
+    fn from_head(&self, state: &mut State, consumers: &[Consumer<'_>], scope: &Scope<'_>, head: &Expr, stages: &Items<Stage>, region: Option<&Region>) -> Result<Flow, Stop>
+        requires { Nests self.now.program.now self.now.limit self.now.depth (F.pre self.now.low) (F.post self.now.low) }
+        ensures { TellsFlow (spec.from_head (here self.now.program.now self.now.limit self.now.depth) (consumers_of consumers.now) (scope_of scope.now) head.now stages.now (region_at region.entry) (seen state.old)) result state.new }
+    {
+        if let Some(stage) = stages.get(0) {
+            if let (Joint::InTurn, StageForm::Iter) = (stage.joint, &stage.form) {
+                let goes_over = self.iterable(state, scope, head)?;
+                return self.stage_loop(state, consumers, scope, goes_over, region, stages, 1);
+            }
+        }
+        let v = self.expr(state, scope, head)?;
+        self.through(state, consumers, scope, region, stages, 0, v)
+    }
+
     /// The stages from a place on, on a value.
     #[cycle(pipeline)]
     pub(crate) fn through(&self, state: &mut State, consumers: &[Consumer<'_>], scope: &Scope<'_>, region: Option<&Region>, stages: &Items<Stage>, place: usize, v: Value) -> Result<Flow, Stop>
@@ -41,8 +85,54 @@ impl<'m, F: Fn(Global, &Prepared<'_>, u64, u32, &mut State, &[Consumer<'_>], Tas
         };
         match stage.joint {
             Joint::InTurn => self.perform(state, consumers, scope, &stage.form, region, stages, place + 1, v),
-            Joint::InParallel => Err(Stop::Memory),
+            Joint::InParallel => {
+                let Some(region) = region else {
+                    return Err(wrong(self.alloc));
+                };
+                tick(state, self.limit)?;
+                self.parallel_stage(state, consumers, scope, region, stage, stages, place + 1, v)
+            }
         }
+    }
+
+    /// The iteration of a value that reaches a stage of a region, with the stages from a place on after it.
+    #[cycle(pipeline)]
+    fn parallel_stage(&self, state: &mut State, consumers: &[Consumer<'_>], scope: &Scope<'_>, region: &Region, stage: &Stage, stages: &Items<Stage>, from: usize, v: Value) -> Result<Flow, Stop>
+        requires { Nests self.now.program.now self.now.limit self.now.depth (F.pre self.now.low) (F.post self.now.low) }
+        ensures { TellsFlow (staged_apart (here self.now.program.now self.now.limit self.now.depth) (consumers_of consumers.now) (scope_of scope.now) (region_of region.now) stage.now (drop from stages.now) v (seen state.old)) result state.new }
+    {
+        let item = v.try_clone(self.alloc)?;
+        let saved = enter_iteration(self.alloc, state, region, item)?;
+        let flow = self.perform_ahead(state, consumers, scope, &stage.form, stages, from, v)?;
+        leave_iteration(self.alloc, state, region, saved)?;
+        Ok(flow)
+    }
+
+    /// What a stage does with a value, and the stages from a place on, among which a region may begin.
+    #[cycle(pipeline)]
+    fn perform_ahead(&self, state: &mut State, consumers: &[Consumer<'_>], scope: &Scope<'_>, form: &StageForm, stages: &Items<Stage>, from: usize, v: Value) -> Result<Flow, Stop>
+        requires { Nests self.now.program.now self.now.limit self.now.depth (F.pre self.now.low) (F.post self.now.low) }
+        ensures { TellsFlow (staged_ahead (here self.now.program.now self.now.limit self.now.depth) (consumers_of consumers.now) (scope_of scope.now) form.now (drop from stages.now) v (seen state.old)) result state.new }
+    {
+        match parallel_place(stages.as_slice(), from) {
+            Some(place) => {
+                let region = begin_stages(self.alloc, state, self.program, scope, stages, place)?;
+                self.perform_inside(state, consumers, scope, form, &region, stages, from, v)
+            }
+            None => self.perform(state, consumers, scope, form, None, stages, from, v),
+        }
+    }
+
+    /// What a stage does with a value, and the stages from a place on, in a region that begins.
+    #[cycle(pipeline)]
+    fn perform_inside(&self, state: &mut State, consumers: &[Consumer<'_>], scope: &Scope<'_>, form: &StageForm, region: &Region, stages: &Items<Stage>, from: usize, v: Value) -> Result<Flow, Stop>
+        requires { Nests self.now.program.now self.now.limit self.now.depth (F.pre self.now.low) (F.post self.now.low) }
+        ensures { TellsFlow (staged_inside (here self.now.program.now self.now.limit self.now.depth) (consumers_of consumers.now) (scope_of scope.now) form.now (region_of region.now) (drop from stages.now) v (seen state.old)) result state.new }
+    {
+        let begun = start_region(state);
+        let flow = self.perform(state, consumers, scope, form, Some(region), stages, from, v)?;
+        finish_region(state, begun, &flow)?;
+        Ok(flow)
     }
 
     /// What a stage does with a value, and the stages from a place on with what it passes on.

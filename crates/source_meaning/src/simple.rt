@@ -1,13 +1,17 @@
 #![tactic(auto, unfolding(crate::specs::Outcome::bind, crate::specs::Outcome::pure, crate::specs::Outcome::stop))]
 
-ghost use Rattle.std.specs.Prelude.{◌≡◌};
+ghost use Rattle.std.specs.Prelude.{◌≡◌, [], Some, if◌then◌else◌};
+ghost use Rattle.codon_base.specs.declared.fault.FaultKind.TheVariants as kind;
 ghost use Rattle.source_meaning.specs.Statements as spec;
 ghost use Rattle.source_meaning.specs.Targets as updates;
-ghost use Rattle.source_meaning.specs.Expressions.{condition};
-ghost use Rattle.source_meaning.specs.Loops.{while_next};
+ghost use Rattle.source_meaning.specs.Expressions.{expr, condition};
+ghost use Rattle.source_meaning.specs.Loops.{yield, while_next};
 ghost use Rattle.source_meaning.specs.Seen.{seen, Tells, TellsFlow};
+ghost use Rattle.source_meaning.specs.Outcome.{◌>>=◌, pure};
+ghost use Rattle.source_meaning.specs.Printing.{print_after};
+ghost use Rattle.source_meaning.specs.State.{Next};
 ghost use Rattle.source_meaning.specs.Scopes.{scope_of};
-ghost use Rattle.source_meaning.specs.Tasks.{Nests, here};
+ghost use Rattle.source_meaning.specs.Tasks.{Nests, here, consumers_of};
 
 use crate::flow::{End, Flow, ended};
 use crate::objects::{field, item_at, put, set_field};
@@ -19,7 +23,8 @@ use crate::state::{State, Stop};
 use crate::task::{Consumer, Task};
 use crate::variables::{fault, read_name, set_name, tick, unpacked, wrong};
 use codon_base::{Fault, FaultKind, Spelling, Text, Value};
-use source_trees::{BinaryOp, Expr, Name, Target, Targets};
+use source_trees::{BinaryOp, Expr, Name, Printed, Target, Targets};
+use sqlite_items::Items;
 use std::alloc::Global;
 
 /// The kind of fault of that name.
@@ -77,7 +82,7 @@ impl<'m, F: Fn(Global, &Prepared<'_>, u64, u32, &mut State, &[Consumer<'_>], Tas
     }
 
     /// Targets take a value.
-    pub(crate) fn assign_all(&self, state: &mut State, scope: &Scope<'_>, written: &Targets, v: Value) -> Result<(), Stop>
+    fn assign_all(&self, state: &mut State, scope: &Scope<'_>, written: &Targets, v: Value) -> Result<(), Stop>
         requires { Nests self.now.program.now self.now.limit self.now.depth (F.pre self.now.low) (F.post self.now.low) }
         ensures { Tells (spec.assign_all (here self.now.program.now self.now.limit self.now.depth) (scope_of scope.now) written.now v (seen state.old)) result state.new }
     {
@@ -123,8 +128,8 @@ impl<'m, F: Fn(Global, &Prepared<'_>, u64, u32, &mut State, &[Consumer<'_>], Tas
         set_field(self.alloc, state, self.program, &o, name, new)
     }
 
-    /// `target op= e`.
-    pub(crate) fn update(&self, state: &mut State, scope: &Scope<'_>, written: &Target, by: BinaryOp, e: &Expr) -> Result<(), Stop>
+    /// What `target op= e` writes.
+    fn update(&self, state: &mut State, scope: &Scope<'_>, written: &Target, by: BinaryOp, e: &Expr) -> Result<(), Stop>
         requires { Nests self.now.program.now self.now.limit self.now.depth (F.pre self.now.low) (F.post self.now.low) }
         ensures { Tells (spec.update (here self.now.program.now self.now.limit self.now.depth) (scope_of scope.now) written.now by e.now (seen state.old)) result state.new }
     {
@@ -136,7 +141,7 @@ impl<'m, F: Fn(Global, &Prepared<'_>, u64, u32, &mut State, &[Consumer<'_>], Tas
     }
 
     /// An annotation, which assigns where it has a value.
-    pub(crate) fn annotated(&self, state: &mut State, scope: &Scope<'_>, name: &Name, e: &Option<Expr>) -> Result<(), Stop>
+    fn annotated(&self, state: &mut State, scope: &Scope<'_>, name: &Name, e: &Option<Expr>) -> Result<(), Stop>
         requires { Nests self.now.program.now self.now.limit self.now.depth (F.pre self.now.low) (F.post self.now.low) }
         ensures { Tells (spec.annotated (here self.now.program.now self.now.limit self.now.depth) (scope_of scope.now) name.now e.now (seen state.old)) result state.new }
     {
@@ -201,5 +206,72 @@ impl<'m, F: Fn(Global, &Prepared<'_>, u64, u32, &mut State, &[Consumer<'_>], Tas
         }
         tick(state, self.limit)?;
         Ok(Some((Value::Unit, ())))
+    }
+
+    /// `yield e`.
+    pub(crate) fn give_item(&self, state: &mut State, consumers: &[Consumer<'_>], scope: &Scope<'_>, e: &Expr) -> Result<Flow, Stop>
+        requires { Nests self.now.program.now self.now.limit self.now.depth (F.pre self.now.low) (F.post self.now.low) }
+        ensures { TellsFlow ((expr (here self.now.program.now self.now.limit self.now.depth) (scope_of scope.now) e.now >>= yield (here self.now.program.now self.now.limit self.now.depth) (consumers_of consumers.now)) (seen state.old)) result state.new }
+    {
+        let v = self.expr(state, scope, e)?;
+        self.give(state, consumers, v)
+    }
+
+    /// `assert e, text`.
+    pub(crate) fn asserted(&self, state: &mut State, scope: &Scope<'_>, e: &Expr, text: &Option<Expr>) -> Result<Flow, Stop>
+        requires { Nests self.now.program.now self.now.limit self.now.depth (F.pre self.now.low) (F.post self.now.low) }
+        ensures { TellsFlow ((condition (here self.now.program.now self.now.limit self.now.depth) (scope_of scope.now) e.now >>= λ t. if t then pure Next else spec.raise (here self.now.program.now self.now.limit self.now.depth) (scope_of scope.now) (Some kind.Assertion) text.now) (seen state.old)) result state.new }
+    {
+        if self.condition(state, scope, e)? {
+            Ok(ended(End::Next))
+        } else {
+            self.raise(state, scope, Some(FaultKind::Assertion), text)
+        }
+    }
+
+    /// `name: annotation = e`.
+    pub(crate) fn annotation(&self, state: &mut State, scope: &Scope<'_>, name: &Name, e: &Option<Expr>) -> Result<Flow, Stop>
+        requires { Nests self.now.program.now self.now.limit self.now.depth (F.pre self.now.low) (F.post self.now.low) }
+        ensures { TellsFlow (spec.done (spec.annotated (here self.now.program.now self.now.limit self.now.depth) (scope_of scope.now) name.now e.now) (seen state.old)) result state.new }
+    {
+        self.annotated(state, scope, name, e)?;
+        Ok(ended(End::Next))
+    }
+
+    /// `targets = e`.
+    pub(crate) fn assignment(&self, state: &mut State, scope: &Scope<'_>, written: &Targets, e: &Expr) -> Result<Flow, Stop>
+        requires { Nests self.now.program.now self.now.limit self.now.depth (F.pre self.now.low) (F.post self.now.low) }
+        ensures { TellsFlow (spec.done (expr (here self.now.program.now self.now.limit self.now.depth) (scope_of scope.now) e.now >>= spec.assign_all (here self.now.program.now self.now.limit self.now.depth) (scope_of scope.now) written.now) (seen state.old)) result state.new }
+    {
+        let v = self.expr(state, scope, e)?;
+        self.assign_all(state, scope, written, v)?;
+        Ok(ended(End::Next))
+    }
+
+    /// `target op= e`.
+    pub(crate) fn augmented(&self, state: &mut State, scope: &Scope<'_>, written: &Target, by: BinaryOp, e: &Expr) -> Result<Flow, Stop>
+        requires { Nests self.now.program.now self.now.limit self.now.depth (F.pre self.now.low) (F.post self.now.low) }
+        ensures { TellsFlow (spec.done (spec.update (here self.now.program.now self.now.limit self.now.depth) (scope_of scope.now) written.now by e.now) (seen state.old)) result state.new }
+    {
+        self.update(state, scope, written, by, e)?;
+        Ok(ended(End::Next))
+    }
+
+    /// An expression whose value is dropped.
+    pub(crate) fn evaluated(&self, state: &mut State, scope: &Scope<'_>, e: &Expr) -> Result<Flow, Stop>
+        requires { Nests self.now.program.now self.now.limit self.now.depth (F.pre self.now.low) (F.post self.now.low) }
+        ensures { TellsFlow ((expr (here self.now.program.now self.now.limit self.now.depth) (scope_of scope.now) e.now >>= λ _. pure Next) (seen state.old)) result state.new }
+    {
+        let _ = self.expr(state, scope, e)?;
+        Ok(ended(End::Next))
+    }
+
+    /// `print(..)`.
+    pub(crate) fn print_statement(&self, state: &mut State, scope: &Scope<'_>, printed: &Printed) -> Result<Flow, Stop>
+        requires { Nests self.now.program.now self.now.limit self.now.depth (F.pre self.now.low) (F.post self.now.low) }
+        ensures { TellsFlow (spec.done (print_after (here self.now.program.now self.now.limit self.now.depth) (scope_of scope.now) [] printed.now) (seen state.old)) result state.new }
+    {
+        self.print_after(state, scope, Items::new(self.alloc), printed)?;
+        Ok(ended(End::Next))
     }
 }

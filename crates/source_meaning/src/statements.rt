@@ -1,12 +1,16 @@
 #![tactic(auto, unfolding(crate::specs::Outcome::bind, crate::specs::Outcome::pure, crate::specs::Outcome::stop), using(crate::proofs::StatementEquations::stmt_rules))]
 
+ghost use Rattle.std.specs.Prelude.{◌≡◌};
+ghost use Rattle.source_meaning.specs.Loops as spec;
 ghost use Rattle.source_meaning.specs.Meaning.{turn_of};
+ghost use Rattle.source_meaning.specs.Outcome.{◌>>=◌, pure};
+ghost use Rattle.source_meaning.specs.Regions.{consumer_in};
 ghost use Rattle.source_meaning.specs.Scopes.{scope_of};
 ghost use Rattle.source_meaning.specs.Seen.{seen, TellsFlow};
 ghost use Rattle.source_meaning.specs.Statements.{stmt, statements};
 ghost use Rattle.source_meaning.specs.Steps.{iterable_of, looped, turns_from, chosen, while_of, for_of};
 ghost use Rattle.source_meaning.specs.Task.{Body};
-ghost use Rattle.source_meaning.specs.Tasks.{Nests, here, consumers_of};
+ghost use Rattle.source_meaning.specs.Tasks.{Nests, here, consumer_of, consumers_of, region_at};
 
 use crate::cursor::{begun, next};
 use crate::flow::{End, Flow, after_loop, ended, goes_on, is_next};
@@ -16,12 +20,22 @@ use crate::runner::Runner;
 use crate::scope::Scope;
 use crate::simple::fault_named;
 use crate::state::{State, Stop};
-use crate::task::{Consumer, Task};
+use crate::task::{Consumer, Region, Task};
 use crate::variables::{left, set_loop_names};
-use codon_base::{FaultKind, Value};
-use source_trees::{Arm, Expr, For, Stmt};
+use codon_base::Value;
+use source_trees::{Arm, Expr, For, LoopNames, Stmt};
 use sqlite_items::Items;
 use std::alloc::Global;
+
+/// What takes the items of a loop in turn, or of one in a region.
+fn consumer_in<'a>(scope: &Scope<'a>, region: Option<&'a Region>, l: &'a For) -> Consumer<'a>
+    ensures { consumer_of result ≡ consumer_in (region_at region.entry) (scope_of scope.now) l.now }
+{
+    match region {
+        Some(region) => Consumer::Parallel(region, *scope, &l.names, &l.body),
+        None => Consumer::Body(*scope, &l.names, &l.body),
+    }
+}
 
 impl<'m, F: Fn(Global, &Prepared<'_>, u64, u32, &mut State, &[Consumer<'_>], Task<'_>) -> Result<Flow, Stop>> Runner<'m, F> {
     #[cycle(statement)]
@@ -39,7 +53,7 @@ impl<'m, F: Fn(Global, &Prepared<'_>, u64, u32, &mut State, &[Consumer<'_>], Tas
     }
 
     #[cycle(statement)]
-    fn statement(&self, state: &mut State, consumers: &[Consumer<'_>], scope: &Scope<'_>, s: &Stmt) -> Result<Flow, Stop>
+    pub(crate) fn statement(&self, state: &mut State, consumers: &[Consumer<'_>], scope: &Scope<'_>, s: &Stmt) -> Result<Flow, Stop>
         requires { Nests self.now.program.now self.now.limit self.now.depth (F.pre self.now.low) (F.post self.now.low) }
         ensures { TellsFlow (stmt (here self.now.program.now self.now.limit self.now.depth) (consumers_of consumers.now) s.now (scope_of scope.now) (seen state.old)) result state.new }
     {
@@ -48,47 +62,19 @@ impl<'m, F: Fn(Global, &Prepared<'_>, u64, u32, &mut State, &[Consumer<'_>], Tas
             Stmt::Break(_) => Ok(ended(End::Break)),
             Stmt::Continue(_) => Ok(ended(End::Continue)),
             Stmt::Return(_, e) => self.returned(state, scope, e),
-            Stmt::Yield(_, e) => {
-                let v = self.expr(state, scope, e)?;
-                self.give(state, consumers, v)
-            }
+            Stmt::Yield(_, e) => self.give_item(state, consumers, scope, e),
             Stmt::Raise(_, name, text) => self.raise(state, scope, fault_named(&name.spelling), text),
-            Stmt::Assert(_, e, text) => {
-                if self.condition(state, scope, e)? {
-                    Ok(ended(End::Next))
-                } else {
-                    self.raise(state, scope, Some(FaultKind::Assertion), text)
-                }
-            }
-            Stmt::Annotated(_, name, _, e) => {
-                self.annotated(state, scope, name, e)?;
-                Ok(ended(End::Next))
-            }
-            Stmt::Assign(_, written, e) => {
-                let v = self.expr(state, scope, e)?;
-                self.assign_all(state, scope, written, v)?;
-                Ok(ended(End::Next))
-            }
-            Stmt::Update(_, written, by, e) => {
-                self.update(state, scope, written, *by, e)?;
-                Ok(ended(End::Next))
-            }
-            Stmt::Evaluate(_, e) => {
-                let _ = self.expr(state, scope, e)?;
-                Ok(ended(End::Next))
-            }
-            Stmt::Print(_, printed) => {
-                self.print_after(state, scope, Items::new(self.alloc), printed)?;
-                Ok(ended(End::Next))
-            }
-            Stmt::Pipeline(_, _, _) => Err(Stop::Memory),
+            Stmt::Assert(_, e, text) => self.asserted(state, scope, e, text),
+            Stmt::Annotated(_, name, _, e) => self.annotation(state, scope, name, e),
+            Stmt::Assign(_, written, e) => self.assignment(state, scope, written, e),
+            Stmt::Update(_, written, by, e) => self.augmented(state, scope, written, *by, e),
+            Stmt::Evaluate(_, e) => self.evaluated(state, scope, e),
+            Stmt::Print(_, printed) => self.print_statement(state, scope, printed),
+            Stmt::Pipeline(_, head, stages) => self.pipeline(state, consumers, scope, head, stages),
             Stmt::If(_, arms, otherwise) => self.choose(state, consumers, scope, arms.as_slice(), otherwise),
-            Stmt::While(_, e, body) => {
-                let flow = self.while_loop(state, consumers, scope, e, body)?;
-                Ok(after_loop(flow))
-            }
+            Stmt::While(_, e, body) => self.while_loop(state, consumers, scope, body, e),
             Stmt::For(l) => self.for_loop(state, consumers, scope, l),
-            Stmt::Par(_, _, _) => Err(Stop::Memory),
+            Stmt::Par(_, _, l) => self.parallel_loop(state, consumers, scope, l),
         }
     }
 
@@ -106,9 +92,9 @@ impl<'m, F: Fn(Global, &Prepared<'_>, u64, u32, &mut State, &[Consumer<'_>], Tas
     }
 
     #[cycle(statement)]
-    fn while_loop(&self, state: &mut State, consumers: &[Consumer<'_>], scope: &Scope<'_>, e: &Expr, body: &Items<Stmt>) -> Result<Flow, Stop>
+    fn while_loop(&self, state: &mut State, consumers: &[Consumer<'_>], scope: &Scope<'_>, body: &Items<Stmt>, e: &Expr) -> Result<Flow, Stop>
         requires { Nests self.now.program.now self.now.limit self.now.depth (F.pre self.now.low) (F.post self.now.low) }
-        ensures { TellsFlow (while_of (here self.now.program.now self.now.limit self.now.depth) (consumers_of consumers.now) (scope_of scope.now) e.now body.now (seen state.old)) result state.new }
+        ensures { TellsFlow ((while_of (here self.now.program.now self.now.limit self.now.depth) (consumers_of consumers.now) (scope_of scope.now) e.now body.now >>= λ flow. pure (spec.after_loop flow)) (seen state.old)) result state.new }
     {
         let mut left = left(state, self.limit);
         'turns: loop {
@@ -117,7 +103,7 @@ impl<'m, F: Fn(Global, &Prepared<'_>, u64, u32, &mut State, &[Consumer<'_>], Tas
             };
             let flow = self.block(state, consumers, scope, body)?;
             if !goes_on(&flow) {
-                return Ok(flow);
+                return Ok(after_loop(flow));
             }
             if left == 0 {
                 return Err(Stop::OutOfFuel);
@@ -132,39 +118,31 @@ impl<'m, F: Fn(Global, &Prepared<'_>, u64, u32, &mut State, &[Consumer<'_>], Tas
         ensures { TellsFlow (for_of (here self.now.program.now self.now.limit self.now.depth) (consumers_of consumers.now) (scope_of scope.now) l.now (seen state.old)) result state.new }
     {
         let goes_over = self.iterable(state, scope, &l.iterable)?;
-        let flow = self.loop_body(state, consumers, scope, l, goes_over)?;
+        let flow = self.loop_body(state, consumers, scope, None, l, goes_over)?;
         Ok(after_loop(flow))
     }
 
+    /// A loop in turn, or in a region that runs.
     #[cycle(statement)]
-    fn loop_body(&self, state: &mut State, consumers: &[Consumer<'_>], scope: &Scope<'_>, l: &For, goes_over: Iterable<'m>) -> Result<Flow, Stop>
+    pub(crate) fn loop_body(&self, state: &mut State, consumers: &[Consumer<'_>], scope: &Scope<'_>, region: Option<&Region>, l: &For, goes_over: Iterable<'m>) -> Result<Flow, Stop>
         requires { Nests self.now.program.now self.now.limit self.now.depth (F.pre self.now.low) (F.post self.now.low) }
-        ensures { TellsFlow (looped (here self.now.program.now self.now.limit self.now.depth) (consumers_of consumers.now) (iterable_of goes_over.entry) (Body (scope_of scope.now) l.now.names l.now.body) (seen state.old)) result state.new }
+        ensures { TellsFlow (looped (here self.now.program.now self.now.limit self.now.depth) (consumers_of consumers.now) (iterable_of goes_over.entry) (consumer_in (region_at region.entry) (scope_of scope.now) l.now) (seen state.old)) result state.new }
     {
         match goes_over {
-            Iterable::Generated(called, given) => self.generate(state, consumers, Consumer::Body(*scope, &l.names, &l.body), called, given),
-            Iterable::Items(container) => self.body_turns(state, consumers, scope, l, Cursor::Item(container, 0)),
+            Iterable::Generated(called, given) => self.generate(state, consumers, consumer_in(scope, region, l), called, given),
+            Iterable::Items(container) => self.turns(state, consumers, scope, region, l, Cursor::Item(container, 0)),
             Iterable::Numbers(start, stop, step) => {
                 let cursor = begun(self.alloc, state, &start, &stop, &step)?;
-                self.body_turns(state, consumers, scope, l, cursor)
+                self.turns(state, consumers, scope, region, l, cursor)
             }
         }
     }
 
-    /// A turn of a loop.
+    /// The turns of a loop in place.
     #[cycle(statement)]
-    fn body_turn(&self, state: &mut State, consumers: &[Consumer<'_>], scope: &Scope<'_>, l: &For, v: Value) -> Result<Flow, Stop>
+    fn turns(&self, state: &mut State, consumers: &[Consumer<'_>], scope: &Scope<'_>, region: Option<&Region>, l: &For, from: Cursor) -> Result<Flow, Stop>
         requires { Nests self.now.program.now self.now.limit self.now.depth (F.pre self.now.low) (F.post self.now.low) }
-        ensures { TellsFlow (turn_of (here self.now.program.now self.now.limit self.now.depth) (consumers_of consumers.now) (Body (scope_of scope.now) l.now.names l.now.body) v (seen state.old)) result state.new }
-    {
-        set_loop_names(self.alloc, state, scope, &l.names, v)?;
-        self.block(state, consumers, scope, &l.body)
-    }
-
-    #[cycle(statement)]
-    fn body_turns(&self, state: &mut State, consumers: &[Consumer<'_>], scope: &Scope<'_>, l: &For, from: Cursor) -> Result<Flow, Stop>
-        requires { Nests self.now.program.now self.now.limit self.now.depth (F.pre self.now.low) (F.post self.now.low) }
-        ensures { TellsFlow (turns_from (here self.now.program.now self.now.limit self.now.depth) (turn_of (here self.now.program.now self.now.limit self.now.depth) (consumers_of consumers.now) (Body (scope_of scope.now) l.now.names l.now.body)) from (seen state.old)) result state.new }
+        ensures { TellsFlow (turns_from (here self.now.program.now self.now.limit self.now.depth) (turn_of (here self.now.program.now self.now.limit self.now.depth) (consumers_of consumers.now) (consumer_in (region_at region.entry) (scope_of scope.now) l.now)) from (seen state.old)) result state.new }
     {
         let mut left = left(state, self.limit);
         let mut cursor = from;
@@ -172,7 +150,7 @@ impl<'m, F: Fn(Global, &Prepared<'_>, u64, u32, &mut State, &[Consumer<'_>], Tas
             let Some(item) = next(self.alloc, state, self.limit, cursor)? else {
                 return Ok(ended(End::Next));
             };
-            let flow = self.body_turn(state, consumers, scope, l, item.0)?;
+            let flow = self.a_turn(state, consumers, scope, region, l, item.0)?;
             if !goes_on(&flow) {
                 return Ok(flow);
             }
@@ -182,5 +160,26 @@ impl<'m, F: Fn(Global, &Prepared<'_>, u64, u32, &mut State, &[Consumer<'_>], Tas
             left -= 1;
             cursor = item.1;
         }
+    }
+
+    #[cycle(statement)]
+    fn a_turn(&self, state: &mut State, consumers: &[Consumer<'_>], scope: &Scope<'_>, region: Option<&Region>, l: &For, v: Value) -> Result<Flow, Stop>
+        requires { Nests self.now.program.now self.now.limit self.now.depth (F.pre self.now.low) (F.post self.now.low) }
+        ensures { TellsFlow (turn_of (here self.now.program.now self.now.limit self.now.depth) (consumers_of consumers.now) (consumer_in (region_at region.entry) (scope_of scope.now) l.now) v (seen state.old)) result state.new }
+    {
+        match region {
+            Some(region) => self.parallel_turn(state, consumers, region, scope, &l.names, &l.body, v),
+            None => self.body_turn(state, consumers, scope, &l.names, &l.body, v),
+        }
+    }
+
+    /// A turn of a loop.
+    #[cycle(statement)]
+    pub(crate) fn body_turn(&self, state: &mut State, consumers: &[Consumer<'_>], scope: &Scope<'_>, names: &LoopNames, body: &Items<Stmt>, v: Value) -> Result<Flow, Stop>
+        requires { Nests self.now.program.now self.now.limit self.now.depth (F.pre self.now.low) (F.post self.now.low) }
+        ensures { TellsFlow (turn_of (here self.now.program.now self.now.limit self.now.depth) (consumers_of consumers.now) (Body (scope_of scope.now) names.now body.now) v (seen state.old)) result state.new }
+    {
+        set_loop_names(self.alloc, state, scope, names, v)?;
+        self.block(state, consumers, scope, body)
     }
 }

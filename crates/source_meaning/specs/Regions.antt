@@ -1,0 +1,31 @@
+-- Loops that run in turn or in parallel, and the stages of a region, as the interpreter computes them.
+use Rattle.std.specs.Prelude.{List, Option, Some, None}
+use Rattle.codon_base.specs.declared.value.Value.{Value}
+use Rattle.source_trees.specs.declared.expression.Expr.{Expr}
+use Rattle.source_trees.specs.declared.statement.For.{For}
+use Rattle.source_trees.specs.declared.pipeline.StageForm.{StageForm}
+use Rattle.source_trees.specs.declared.pipeline.Stage.{Stage}
+use Rattle.source_meaning.specs.State.{Flow}
+use Rattle.source_meaning.specs.Outcome.{Run}
+use Rattle.source_meaning.specs.Program.{Scope}
+use Rattle.source_meaning.specs.Task.{Region, Consumer, Body, Parallel, Setting}
+use Rattle.source_meaning.specs.Pipelines.{from_head}
+use Rattle.source_meaning.specs.Stages.{staged, staged_ahead}
+
+-- what takes the items of a loop: its body, or in a region its body in an iteration for each
+abbrev pub consumer_in : Option Region → Scope → For → Consumer
+consumer_in None scope l = Body scope l.names l.body
+consumer_in (Some region) scope l = Parallel region scope l.names l.body
+
+module _ (here : Setting) (consumers : List Consumer) (scope : Scope) where
+  -- a pipeline in a region that begins there
+  abbrev pub headed_inside : Expr → List Stage → Region → Run Flow
+  headed_inside head stages region = here.rules.region region (from_head here consumers scope head stages (Some region))
+
+  -- a stage and those after it, on a value, in a region that begins there
+  abbrev pub staged_inside : StageForm → Region → List Stage → Value → Run Flow
+  staged_inside form region more v = here.rules.region region (staged here consumers scope form (Some region) more v)
+
+  -- the iteration of a value that reaches a stage of a region
+  abbrev pub staged_apart : Region → Stage → List Stage → Value → Run Flow
+  staged_apart region stage more v = here.rules.item region v (staged_ahead here consumers scope stage.form more v)
