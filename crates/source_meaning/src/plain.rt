@@ -133,8 +133,8 @@ fn fixed_names(alloc: Global, module: &Module) -> Result<Items<Spelling>, Memory
 
 /// Runs the statements of a module.
 fn run_module(alloc: Global, program: &Prepared<'_>, module: &Module, fuel: u64, depth: u32, state: &mut State) -> Result<Flow, Stop>
-    requires { program_of program.now ≡ spec.program_of module.now }
-    requires { seen state.old ≡ start }
+    requires program { program_of program.now ≡ spec.program_of module.now }
+    requires begins { seen state.old ≡ start }
     ensures { TellsFlow (outcome module.now fuel depth TooDeep) result state.new }
 {
     let fixed = fixed_names(alloc, module)?;
