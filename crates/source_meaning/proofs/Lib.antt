@@ -29,3 +29,7 @@ pub mod Over
 pub mod MethodCalls
 pub mod Assigns
 pub mod Rounds
+pub mod Changed
+pub mod Operated
+pub mod Popped
+pub mod Pieces

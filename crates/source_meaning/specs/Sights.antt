@@ -1,20 +1,24 @@
 -- What operators see of the interpreter's objects, and what its parts answer about them.
-use Rattle.std.specs.Prelude.{◌≡◌, ◌≢◌, ℕ, ℤ, List, map, Result, Ok, Err}
+use Rattle.std.specs.Prelude.{◌≡◌, ◌≢◌, ℕ, ℤ, List, map, Option, Some, None, Result, Ok, Err}
 use Rattle.std.specs.Borrow.{Bor}
 use Rattle.codon_base.specs.declared.value.Ref.{Ref}
 use Rattle.codon_base.specs.declared.value.Value.{Value}
-use Rattle.codon_base.specs.Operators.{Sight, fault_of}
+use Rattle.codon_base.specs.Operators.{Sight, Made, made, fault_of}
 use Rattle.value_operators.specs.declared.change.ChangeRefusal.{ChangeRefusal}
 use Rattle.value_operators.specs.declared.change.ChangeRefusal.TheVariants.{NotThere, Memory}
+use Rattle.codon_base.specs.declared.value.Value.TheVariants as value
+use Rattle.codon_base.specs.declared.memory.Or.{Or}
+use Rattle.codon_base.specs.declared.memory.Or.TheVariants as or
 use Rattle.codon_base.specs.declared.walk.WalkEnd.{WalkEnd}
 use Rattle.codon_base.specs.Ends.{end_of}
 use Rattle.source_meaning.specs.State.{State}
-use Rattle.source_meaning.specs.Outcome.{Run, ◌>>=◌, look, Stops}
-use Rattle.source_meaning.specs.Objects.{is_some, place_in, in_sequence, settled, Instanced}
+use Rattle.source_meaning.specs.Outcome.{Outcome, Run, ◌>>=◌, look, Gives, Stops}
+use Rattle.source_meaning.specs.Objects.{is_some, place_in, in_sequence, index_fault, settled, Instanced}
 use Rattle.source_meaning.specs.Iterations.{judged, is_lent}
 use Rattle.source_meaning.specs.Task.{Whole}
-use Rattle.source_meaning.specs.Seen.{iteration_of, why_of}
+use Rattle.source_meaning.specs.Seen.{seen, iteration_of, why_of}
 use Rattle.source_meaning.specs.declared.state.Store.{Store}
+use Rattle.source_meaning.specs.declared.state.State as running
 use Rattle.source_meaning.specs.declared.state.Stop.{Stop}
 use Rattle.source_meaning.specs.declared.state.Stop.TheVariants as stop
 use Rattle.source_meaning.specs.declared.fields.Instanced.{Instanced as Found}
@@ -48,3 +52,14 @@ Came (Err Memory) result = result ≡ Err stop.Memory
 -- the stop is by the fault of that end of a walk, unless memory fails
 abbrev pub IsEnd : WalkEnd → Stop → Type 0
 IsEnd why e = e ≢ stop.Memory → (s : State) → settled (fault_of (end_of why)) s ≡ Stops (why_of e) s
+
+-- what the walk for a text makes
+abbrev pub IsText : Result (List ℕ) (Or WalkEnd) → Made → Type 0
+IsText (Ok bytes) m = m ≡ made (value.Text bytes)
+IsText (Err (or.No why)) m = m ≡ fault_of (end_of why)
+IsText (Err or.Memory) m = Unit {0}
+
+-- the item that was taken out is given, or none was there
+abbrev pub HasPopped : Option Value → Outcome Value → running.State → Type 0
+HasPopped (Some v) outcome new = outcome ≡ Gives v (seen new)
+HasPopped None outcome new = outcome ≡ index_fault (seen new)

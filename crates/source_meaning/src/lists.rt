@@ -33,6 +33,7 @@ pub(crate) fn list_at<'s>(alloc: Global, state: &'s State, at: Ref) -> Result<&'
 }
 
 /// The place of a list that an index names, where the iterations that run may use it.
+#[tactic(auto, unfolding(crate::specs::Outcome::bind, crate::specs::Outcome::pure, crate::specs::Outcome::stop, crate::specs::Outcome::look, crate::specs::Seen::seen))]
 pub(crate) fn used_place(
     alloc: Global,
     state: &State,
@@ -51,6 +52,7 @@ pub(crate) fn used_place(
 }
 
 /// The place that an index names.
+#[tactic(auto, unfolding(crate::specs::Outcome::bind, crate::specs::Outcome::pure, crate::specs::Outcome::stop, crate::specs::Outcome::look, crate::specs::Seen::seen))]
 fn named_place(
     alloc: Global,
     state: &State,
@@ -79,6 +81,7 @@ fn place_in(lent: bool, size: usize, index: i64) -> Option<usize>
 }
 
 /// Whether a list may be used as a whole.
+#[tactic(auto, unfolding(crate::specs::Outcome::bind, crate::specs::Outcome::pure, crate::specs::Outcome::stop, crate::specs::Outcome::look, crate::specs::Seen::seen))]
 pub(crate) fn allow_whole(alloc: Global, state: &State, at: Ref) -> Result<(), Stop>
     ensures { Tells (spec.allow in_place (Whole at) (seen state.now)) result state.now }
 {

@@ -1,4 +1,4 @@
-#![tactic(auto, unfolding(crate::specs::Outcome::bind, crate::specs::Outcome::pure, crate::specs::Outcome::stop))]
+#![tactic(auto, unfolding(crate::specs::Outcome::bind, crate::specs::Outcome::pure, crate::specs::Outcome::stop), using(crate::proofs::Operated::operated))]
 
 ghost use Rattle.codon_base.specs.declared.value.Value.{out-Value};
 ghost use Rattle.source_meaning.specs.Objects as objects;
