@@ -46,7 +46,7 @@ cleared_made r levels after at items e = made_at r cleared levels after at (List
 
 -- a run that has made a change of its heap has replaced the object
 pub replaced_tells : (old : State) (after : List (List Object)) (at : Ref) (o : Object) (r : Result (Unit {0}) ChangeRefusal) (result : Result (Unit {0}) Stop) → IsMade r (replaced (seen old).shared.levels at o) after → Came r result → Tells (replace at o (seen old)) result (record old { store = record old.store { heap = after } })
-  unfolding seen change_levels
+unfolding seen change_levels
 replaced_tells old after at o (Ok done) result m came = subst (λ r. Tells (replace at o (seen old)) r (record old { store = record old.store { heap = after } })) (sym came) (ap (λ (levels : List (List Object)). Gives tt (seen (record old { store = record old.store { heap = levels } }))) (sym m))
 replaced_tells old after at o (Err NotThere) result m came = absurd m
 replaced_tells old after at o (Err Memory) result m came = subst (λ r. Tells (replace at o (seen old)) r (record old { store = record old.store { heap = after } })) (sym came) (λ ne. absurd (ne refl))

@@ -33,3 +33,4 @@ pub mod Changed
 pub mod Operated
 pub mod Popped
 pub mod Pieces
+pub mod Places

@@ -18,7 +18,7 @@ use Rattle.source_meaning.specs.declared.state.State.{State}
 
 -- operators see what the code sees
 pub operated : (s : State) (operator : Sight → Made) → operate in_place operator (seen s) ≡ settled (operator (sight_of s.store)) (seen s)
-  unfolding seen bind look
+unfolding seen bind look
 operated s operator = refl
 
 -- what a walk over a value for its text makes

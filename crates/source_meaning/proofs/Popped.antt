@@ -43,7 +43,7 @@ heap_of old levels = record old { store = record old.store { heap = levels } }
 
 popped_some : (old : State) (after : List (List Object)) (at : Ref) (rest : List Value) (v : Value) → after ≡ replaced old.store.heap at (Listed rest)
     → pop_last at (rest ++ v ∷ []) (placed (rest ++ v ∷ []) (place_of (length (rest ++ v ∷ [])) (negsuc 0))) (seen old) ≡ Gives v (seen (heap_of old after))
-  unfolding seen bind pure change_levels
+unfolding seen bind pure change_levels
 popped_some old after at rest v new =
     ap (λ o. pop_last at (rest ++ v ∷ []) o (seen old)) (last_placed rest v)
     ∙ ap (λ left. bind (replace at (Listed left)) (λ _. pure v) (seen old)) (all_but_last rest v)
@@ -56,7 +56,7 @@ popped_none old after at new = ap (λ levels. index_fault {A = Value} (seen (hea
 -- what `pop` does where the list is there
 pub popped_tells : (old : State) (after : List (List Object)) (at : Ref) (items : List Value) (o : Option Value) → object_at (seen old).shared.levels at ≡ Some (Listed items) → PopsAt o (seen old).shared.levels at after
     → HasPopped o (pop_last at items (placed items (place_of (length items) (negsuc 0))) (seen old)) (record old { store = record old.store { heap = after } })
-  unfolding seen
+unfolding seen
 popped_tells old after at items (Some v) e (rest, (there, new)) =
     subst (λ vs. pop_last at vs (placed vs (place_of (length vs) (negsuc 0))) (seen old) ≡ Gives v (seen (heap_of old after)))
       (sym (same_items items (rest ++ v ∷ []) (sym e ∙ there))) (popped_some old after at rest v new)

@@ -6,6 +6,8 @@ ghost use Rattle.codon_base.specs.Levels.{object_at};
 ghost use Rattle.source_meaning.specs.Outcome.{bind};
 ghost use Rattle.source_meaning.specs.Objects as spec;
 ghost use Rattle.source_meaning.specs.Program.{place_named};
+ghost use Rattle.source_meaning.specs.State.{same};
+ghost use Rattle.std.specs.List.{position};
 ghost use Rattle.source_meaning.specs.Iterations.{in_place};
 ghost use Rattle.source_meaning.specs.Seen.{seen, Tells, TellsAt, TellsBy};
 ghost use Rattle.source_meaning.specs.Sights.{instanced_of};
@@ -47,8 +49,16 @@ pub(crate) fn instance_at<'s>(
 }
 
 /// The place of a name among others.
+#[tactic(auto, using(crate::proofs::Places::place_named_is))]
 fn place_named(name: &Spelling, names: &[Spelling]) -> Option<usize>
     ensures { result ≡ place_named name.now names.now }
+{
+    first_named(name, names)
+}
+
+/// The place of the first name that is spelled so.
+fn first_named(name: &Spelling, names: &[Spelling]) -> Option<usize>
+    ensures { result ≡ position (same name.now) names.now }
 {
     names.iter().position(|other| same(name, other))
 }

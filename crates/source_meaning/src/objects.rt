@@ -53,10 +53,7 @@ pub(crate) fn item_at(alloc: Global, state: &State, container: &Value, index: &V
             let v = character_at(alloc, text, index)?;
             Ok(v)
         }
-        Value::Tuple(items) => {
-            let v = tuple_item(alloc, items.as_slice(), index)?;
-            Ok(v)
-        }
+        Value::Tuple(items) => tuple_item(alloc, state, items.as_slice(), index),
         _ => Err(wrong(alloc)),
     }
 }
@@ -72,8 +69,8 @@ fn character_at(alloc: Global, text: &Text, index: i64) -> Result<Value, Stop>
 }
 
 /// The item of a tuple that an index names.
-fn tuple_item(alloc: Global, items: &[Value], index: i64) -> Result<Value, Stop>
-    ensures { (s : _) → TellsAt (spec.indexed_by in_place (Value-F.Tuple items.now) index s) result s }
+fn tuple_item(alloc: Global, state: &State, items: &[Value], index: i64) -> Result<Value, Stop>
+    ensures { Tells (spec.indexed_by in_place (Value-F.Tuple items.now) index (seen state.now)) result state.now }
 {
     let Some(place) = place_of(items.len(), index) else {
         return Err(index_fault(alloc));
@@ -101,17 +98,14 @@ pub(crate) fn found_at(alloc: Global, state: &State, container: &Value, place: u
 {
     match container {
         Value::Ref(at) => found_in_list(alloc, state, *at, place),
-        Value::Text(text) => {
-            let v = found_in_text(alloc, text, place)?;
-            Ok(v)
-        }
+        Value::Text(text) => found_in_text(alloc, state, text, place),
         _ => Err(wrong(alloc)),
     }
 }
 
 /// The text of the character at a place, where there is one.
-fn found_in_text(alloc: Global, text: &Text, place: u64) -> Result<Option<Value>, Stop>
-    ensures { (s : _) → TellsAt (spec.found_by in_place place (Value-F.Text text.now) s) result s }
+fn found_in_text(alloc: Global, state: &State, text: &Text, place: u64) -> Result<Option<Value>, Stop>
+    ensures { Tells (spec.found_by in_place place (Value-F.Text text.now) (seen state.now)) result state.now }
 {
     if place >= text.len() as u64 {
         return Ok(None);
