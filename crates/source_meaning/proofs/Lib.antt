@@ -29,3 +29,8 @@ pub mod Over
 pub mod MethodCalls
 pub mod Assigns
 pub mod Rounds
+pub mod Changed
+pub mod Operated
+pub mod Popped
+pub mod Pieces
+pub mod Places
