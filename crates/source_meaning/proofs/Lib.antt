@@ -34,3 +34,4 @@ pub mod Operated
 pub mod Popped
 pub mod Pieces
 pub mod Places
+pub mod Constructed

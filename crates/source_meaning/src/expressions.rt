@@ -20,6 +20,7 @@ use crate::cursor::{begun, next};
 use crate::flow::{End, Flow, ended, goes_on};
 use crate::frames::swap_names;
 use crate::iterable::{Cursor, Iterable};
+use crate::loops::is_within;
 use crate::objects::{allocate, field, item_at, slice};
 use crate::operations::{binary, builtin, compared, truth, unary};
 use crate::prepared::Prepared;
@@ -448,6 +449,7 @@ impl<'m, F: Fn(Global, &Prepared<'_>, u64, u32, &mut State, &[Consumer<'_>], Tas
             Iterable::Items(container) => self.gather_turns(state, inner, Cursor::Item(container, 0), names, item, condition, list),
             Iterable::Numbers(start, stop, step) => {
                 let cursor = begun(self.alloc, state, &start, &stop, &step)?;
+                is_within(&cursor);
                 self.gather_turns(state, inner, cursor, names, item, condition, list)
             }
         }
