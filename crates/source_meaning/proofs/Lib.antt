@@ -29,3 +29,5 @@ pub mod Over
 pub mod MethodCalls
 pub mod Assigns
 pub mod Rounds
+pub mod Apart
+pub mod Ahead
