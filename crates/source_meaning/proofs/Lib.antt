@@ -35,3 +35,5 @@ pub mod Popped
 pub mod Pieces
 pub mod Places
 pub mod Constructed
+pub mod Apart
+pub mod Ahead
