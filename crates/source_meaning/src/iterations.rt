@@ -54,6 +54,7 @@ pub(crate) fn enter_iteration(
 
 fn open_level(alloc: Global, store: &mut Store, region: &Region, item: Value) -> Result<(), Memory>
     ensures levels { OnOk result (store.new.heap ≡ store.old.heap ++ [] ∷ []) }
+    ensures above { OnOk result (1 < length store.new.heap) }
     ensures iterations { OnOk result (map iteration_of store.new.iterations ≡ map iteration_of store.old.iterations ++ (record { item = item; lent = region.now.lent; targets = region.now.targets }) ∷ []) }
 {
     store.heap.enter(alloc)?;

@@ -114,16 +114,25 @@ fn push_methods<'m>(class_name: &'m Spelling, members: &'m [Member], callables: 
     Ok(())
 }
 
+fn push_callables<'m>(item: &'m Item, callables: &mut Vec<Callable<'m>>) -> Result<(), Memory>
+    ensures { OnOk result (map callable_of callables.new.items ≡ map callable_of callables.old.items ++ spec.callables_in item.now) }
+{
+    match item {
+        Item::Function(function) => {
+            callables.push(Callable { function, class_name: None })?;
+            Ok(())
+        }
+        Item::Class(c) => push_methods(&c.name.spelling, c.members.as_slice(), callables),
+        Item::Stmt(_) => Ok(()),
+    }
+}
+
 fn callables_in<'m>(alloc: Global, items: &'m [Item]) -> Result<Vec<Callable<'m>>, Memory>
     ensures { IfOk result (λ callables. map callable_of callables.items ≡ flat_map spec.callables_in items.now) }
 {
     let mut callables = Vec::new(alloc);
     'items: for item in items {
-        match item {
-            Item::Function(function) => callables.push(Callable { function, class_name: None })?,
-            Item::Class(c) => push_methods(&c.name.spelling, c.members.as_slice(), &mut callables)?,
-            Item::Stmt(_) => {}
-        }
+        push_callables(item, &mut callables)?;
     }
     Ok(callables)
 }
