@@ -37,3 +37,4 @@ pub mod Places
 pub mod Constructed
 pub mod Apart
 pub mod Ahead
+pub mod Stepped

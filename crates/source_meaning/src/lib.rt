@@ -39,6 +39,7 @@ mod stages;
 mod state;
 mod statements;
 mod task;
+mod turns;
 mod variables;
 mod words;
 
