@@ -8,6 +8,7 @@ mod calls;
 mod captures;
 mod changes;
 mod cursor;
+mod entering;
 mod expressions;
 mod fields;
 mod flow;
@@ -39,7 +40,6 @@ mod stages;
 mod state;
 mod statements;
 mod task;
-mod turns;
 mod variables;
 mod words;
 
