@@ -1,0 +1,5 @@
+pub mod Gather
+pub mod Blocks
+pub mod Functions
+pub mod Sources
+pub mod Answers

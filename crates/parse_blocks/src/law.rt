@@ -1,0 +1,29 @@
+ghost use Rattle.std.specs.Prelude.{◌≡◌, ℕ, ◌≤◌, Bool, List, ◌⊎◌};
+ghost use Rattle.indent_lexer.specs.declared.token.Token.{Token};
+ghost use Rattle.source_trees.specs.declared.item.Module.{Module};
+ghost use Rattle.parse_laws.specs.Forms.{any};
+ghost use Rattle.parse_laws.specs.Language.{Law};
+ghost use Rattle.parse_laws.specs.Limits.{Limited};
+ghost use Rattle.grammar_rules.specs.declared.refusal.ParseRefusal.{ParseRefusal};
+ghost use Rattle.grammar_rules.specs.Modules.{Derives};
+ghost use Rattle.grammar_rules.specs.Refusals.{IsParsePlace};
+ghost use Rattle.grammar_rules.specs.Statements.{IsStmt, IsStmts, IsBlock};
+ghost use Rattle.parse_statements.specs.Readers.{Readers, Exact, LowStmts};
+ghost use Rattle.parse_blocks.specs.Answers.{IsText, DerivesLow, HasTree, HasPlace};
+ghost use Rattle.parse_blocks.specs.Blocks.{stmt_on, stmts_on, statement, stmts, block};
+ghost use Rattle.parse_blocks.specs.Sources.{source};
+
+/// The parser of statements is exact at every limit of height, with all the blocks that a statement holds: a list of tokens has at most one tree, which it finds; and where it refuses a token, the tokens before it begin a statement within the limit, and with it they begin none, or none within the limit.
+pub fn law_of_statements()
+    ensures statement { (r : Readers) → Exact r → (n : ℕ) → 1 ≤ n → (ts : List Token) → Law IsStmt (Limited IsStmt (LowStmts n)) stmt_on ts (statement r n ts) }
+    ensures statements { (r : Readers) → Exact r → (n : ℕ) → 1 ≤ n → (ts : List Token) → Law IsStmts (Limited IsStmts (LowStmts n)) stmts_on ts (stmts r n ts) }
+    ensures block { (r : Readers) → Exact r → (n : ℕ) → 1 ≤ n → (cont : Token → Bool) (ts : List Token) → Law IsBlock (Limited IsBlock (LowStmts n)) cont ts (block r n ts) }
+{}
+
+/// The parser of whole sources is exact: it finds the one tree that a list of tokens has within the limit of height, and else the first bad token.
+pub fn law_of_sources()
+    ensures exact { (r : Readers) → Exact r → (ts : List Token) → Law Derives DerivesLow any ts (source r ts) }
+    ensures decided { (r : Readers) → Exact r → (ts : List Token) → IsText ts → HasTree ts ⊎ HasPlace ts }
+    ensures apart { (ts : List Token) (m : Module) (p : ParseRefusal) → DerivesLow ts m → IsParsePlace ts p → ⊥ }
+    ensures one_tree { (r : Readers) → Exact r → (ts : List Token) (m w : Module) → DerivesLow ts m → Derives ts w → w ≡ m }
+{}
