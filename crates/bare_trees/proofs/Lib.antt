@@ -1,2 +1,5 @@
 pub mod BareForms
 pub mod Derived
+pub mod Restore
+pub mod RestoreStatements
+pub mod RestoreSources

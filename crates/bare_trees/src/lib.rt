@@ -1,6 +1,6 @@
-//! What the grammar derives has no numbers yet: each node of a derived tree has the number 0, so that the tree is its own bare tree.
+//! Trees and their numbers: what the grammar derives has no numbers yet, so that it is its own bare tree; and a tree is told by its bare tree and the numbers of its nodes.
 #![tactic(auto)]
 
 mod law;
 
-pub use law::law_of_derived_trees;
+pub use law::{law_of_derived_trees, law_of_numbered_trees};
