@@ -3,3 +3,4 @@ pub mod Derived
 pub mod Restore
 pub mod RestoreStatements
 pub mod RestoreSources
+pub mod BareHeights
