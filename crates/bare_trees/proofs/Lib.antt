@@ -4,3 +4,4 @@ pub mod Restore
 pub mod RestoreStatements
 pub mod RestoreSources
 pub mod BareHeights
+pub mod Numbering

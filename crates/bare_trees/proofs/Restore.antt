@@ -63,11 +63,11 @@ Good x s nodes = (rest : List ℕ) → s (ids nodes ++ rest) ≡ (x, rest)
 abbrev pub Parts : {X : Type 0} → X → State X → List (List Node) → Type 0
 Parts x s parts = Good x s (joined parts)
 
-ids_append : (a c : List Node) → ids (a ++ c) ≡ ids a ++ ids c
+pub ids_append : (a c : List Node) → ids (a ++ c) ≡ ids a ++ ids c
 ids_append [] c = refl
 ids_append (n ∷ a) c = ap (λ z. n.id.0 ∷ z) (ids_append a c)
 
-joined_append : (ps qs : List (List Node)) → joined (ps ++ qs) ≡ joined ps ++ joined qs
+pub joined_append : (ps qs : List (List Node)) → joined (ps ++ qs) ≡ joined ps ++ joined qs
 joined_append [] qs = refl
 joined_append (p ∷ ps) qs = ap (λ z. p ++ z) (joined_append ps qs) ∙ sym (append_assoc p (joined ps) (joined qs))
 

@@ -3,4 +3,4 @@
 
 mod law;
 
-pub use law::{law_of_bare_heights, law_of_derived_trees, law_of_numbered_trees};
+pub use law::{law_of_bare_heights, law_of_derived_trees, law_of_numbered_trees, law_of_numbering};
