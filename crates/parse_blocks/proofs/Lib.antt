@@ -9,3 +9,4 @@ pub mod Classes
 pub mod Sources
 pub mod NoEnd
 pub mod Places
+pub mod Trees

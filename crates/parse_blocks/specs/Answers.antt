@@ -5,7 +5,7 @@ use Rattle.source_trees.specs.declared.item.Module.{Module}
 use Rattle.parse_laws.specs.Language.{Language}
 use Rattle.parse_laws.specs.Limits.{Limited}
 use Rattle.grammar_rules.specs.declared.refusal.ParseRefusal.{ParseRefusal}
-use Rattle.grammar_rules.specs.Modules.{Derives}
+use Rattle.grammar_rules.specs.Modules.{Derives, Tree}
 use Rattle.grammar_rules.specs.Refusals.{IsLow, IsParsePlace}
 use Rattle.grammar_rules.specs.Words.{is_end}
 
@@ -22,3 +22,6 @@ HasTree ts = (m : Module) × DerivesLow ts m
 
 abbrev pub HasPlace : List Token → Type 0
 HasPlace ts = (p : ParseRefusal) × IsParsePlace ts p
+
+abbrev pub HasNumberedTree : List Token → Type 0
+HasNumberedTree ts = (m : Module) × Tree ts m

@@ -5,11 +5,11 @@ ghost use Rattle.parse_laws.specs.Forms.{any};
 ghost use Rattle.parse_laws.specs.Language.{Law};
 ghost use Rattle.parse_laws.specs.Limits.{Limited};
 ghost use Rattle.grammar_rules.specs.declared.refusal.ParseRefusal.{ParseRefusal};
-ghost use Rattle.grammar_rules.specs.Modules.{Derives};
+ghost use Rattle.grammar_rules.specs.Modules.{Derives, Tree as IsTree};
 ghost use Rattle.grammar_rules.specs.Refusals.{IsParsePlace};
 ghost use Rattle.grammar_rules.specs.Statements.{IsStmt, IsStmts, IsBlock};
 ghost use Rattle.parse_statements.specs.Readers.{Readers, Exact, LowStmts};
-ghost use Rattle.parse_blocks.specs.Answers.{IsText, DerivesLow, HasTree, HasPlace};
+ghost use Rattle.parse_blocks.specs.Answers.{IsText, DerivesLow, HasTree, HasNumberedTree, HasPlace};
 ghost use Rattle.parse_blocks.specs.Blocks.{stmt_on, stmts_on, statement, stmts, block};
 ghost use Rattle.parse_blocks.specs.Sources.{source};
 
@@ -26,4 +26,12 @@ pub fn law_of_sources()
     ensures decided { (r : Readers) → Exact r → (ts : List Token) → IsText ts → HasTree ts ⊎ HasPlace ts }
     ensures apart { (ts : List Token) (m : Module) (p : ParseRefusal) → DerivesLow ts m → IsParsePlace ts p → ⊥ }
     ensures one_tree { (r : Readers) → Exact r → (ts : List Token) (m w : Module) → DerivesLow ts m → Derives ts w → w ≡ m }
+{}
+
+/// A list of tokens that ends with the end of a text has a tree or the place of its first bad token, never both, and one of them at most.
+pub fn law_of_trees()
+    ensures decided { (r : Readers) → Exact r → (ts : List Token) → IsText ts → HasNumberedTree ts ⊎ HasPlace ts }
+    ensures apart { (ts : List Token) (m : Module) (p : ParseRefusal) → IsTree ts m → IsParsePlace ts p → ⊥ }
+    ensures one_tree { (r : Readers) → Exact r → (ts : List Token) (m w : Module) → IsTree ts m → IsTree ts w → w ≡ m }
+    ensures one_place { (ts : List Token) (p q : ParseRefusal) → IsParsePlace ts p → IsParsePlace ts q → p ≡ q }
 {}
