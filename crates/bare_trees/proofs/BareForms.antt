@@ -1,5 +1,5 @@
 -- What stands bare of each form of a tree, one equation a form, and the node that a bare expression begins with.
-use Rattle.std.proofs.Common.{◌≡◌, ℕ, ℤ, List, [], ◌∷◌, map, Option, Some, None, refl, ap, sym, ◌∙◌}
+use Rattle.std.proofs.Common.{◌≡◌, ℕ, ℤ, List, map, Option, Some, None, refl, ap, sym, ◌∙◌}
 use Rattle.source_trees.specs.declared.operator.UnaryOp.{UnaryOp}
 use Rattle.source_trees.specs.declared.operator.BinaryOp.{BinaryOp}
 use Rattle.source_trees.specs.declared.node.Node.{Node}

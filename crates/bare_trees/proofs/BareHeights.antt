@@ -43,7 +43,7 @@ use Rattle.source_trees.specs.declared.statement.Targets.{Targets}
 use Rattle.source_trees.specs.declared.statement.Targets.TheVariants as targets
 use Rattle.source_trees.specs.Bare.{bare, bare_name, bare_loop_names, bare_expr, bare_comparison, bare_optional, bare_annotation, bare_target, bare_targets, bare_print_options, bare_printed, bare_stage_form, bare_stage, bare_stmt, bare_arm, bare_for, bare_param, bare_function, bare_member, bare_class, bare_item, bare_module}
 use Rattle.source_trees.specs.Heights.{highest, over_parts, height_of_expr, height_of_annotation, height_of_target, height_of_targets, height_of_stage, height_of_stmt, height_of_for, height_of_param, height_of_function, height_of_member, height_of_class, height_of_item, height_of}
-use Rattle.source_trees.specs.Parts.{optional, of_name, of_loop_names, of_comparison, of_optional_expr, of_optional_annotation, of_print_options, of_printed, of_stage_form, of_arm, of_module}
+use Rattle.source_trees.specs.Parts.{optional, of_name, of_loop_names, of_comparison, of_optional_expr, of_optional_annotation, of_print_options, of_printed, of_stage_form, of_arm}
 use Rattle.source_trees.proofs.Equations as q
 use Rattle.bare_trees.proofs.BareForms as shape
 use Rattle.bare_trees.proofs.Restore.{Each, each_by}

@@ -42,8 +42,8 @@ use Rattle.source_trees.specs.declared.statement.Target.TheVariants as target
 use Rattle.source_trees.specs.declared.statement.Targets.{Targets}
 use Rattle.source_trees.specs.declared.statement.Targets.TheVariants as targets
 use Rattle.source_trees.specs.Bare.{bare, bare_name, bare_loop_names, bare_expr, bare_comparison, bare_optional, bare_annotation, bare_target, bare_targets, bare_print_options, bare_printed, bare_stage_form, bare_stage, bare_stmt, bare_arm, bare_for, bare_param, bare_function, bare_member, bare_class, bare_item, bare_module}
-use Rattle.source_trees.specs.Nodes.{joined, before_parts, nodes_of_expr, nodes_of_annotation, nodes_of_target, nodes_of_targets, nodes_of_stage, nodes_of_stmt, nodes_of_for, nodes_of_param, nodes_of_function, nodes_of_member, nodes_of_class, nodes_of_item, nodes_of, numbers_from, IsNumbered}
-use Rattle.source_trees.specs.Parts.{optional, of_name, of_loop_names, of_comparison, of_optional_expr, of_optional_annotation, of_print_options, of_printed, of_stage_form, of_arm, of_module}
+use Rattle.source_trees.specs.Nodes.{joined, before_parts, nodes_of_expr, nodes_of_annotation, nodes_of_target, nodes_of_targets, nodes_of_stage, nodes_of_stmt, nodes_of_for, nodes_of_param, nodes_of_function, nodes_of_member, nodes_of_class, nodes_of_item, numbers_from, IsNumbered}
+use Rattle.source_trees.specs.Parts.{optional, of_name, of_loop_names, of_comparison, of_optional_expr, of_optional_annotation, of_print_options, of_printed, of_stage_form, of_arm}
 use Rattle.source_trees.proofs.Equations as q
 use Rattle.bare_trees.proofs.BareForms as shape
 use Rattle.std.proofs.lemmas.List.{append-nil, length-append}

@@ -1,6 +1,5 @@
 -- A tree from its bare tree and the numbers of its nodes in preorder: no other tree has both.
 use Rattle.std.proofs.Common.{◌≡◌, ℕ, ℤ, List, [], ◌∷◌, ◌++◌, map, Option, Some, None, refl, sym, ◌∙◌, ap, subst, append_assoc}
-use Rattle.std.specs.List.{flat_map}
 use Rattle.std.specs.Option.{option_map}
 use Rattle.std.proofs.lemmas.List.{append-nil}
 use Rattle.source_trees.specs.declared.operator.UnaryOp.{UnaryOp}
@@ -10,14 +9,14 @@ use Rattle.source_trees.specs.declared.node.Name.{Name}
 use Rattle.source_trees.specs.declared.expression.Commas.{Commas}
 use Rattle.source_trees.specs.declared.expression.Expr.{Expr, Expr-F, roll-Expr, ind-Expr}
 use Rattle.source_trees.specs.declared.expression.Expr.TheOpen.{Comparison-F}
-use Rattle.source_trees.specs.declared.expression.Expr.TheFolds.{fold-Expr, fold-Comparison, map-Expr, map-Comparison, fold-roll-Expr, fold_out-Comparison, fold-roll-Comparison}
+use Rattle.source_trees.specs.declared.expression.Expr.TheFolds.{fold-Expr, fold-Comparison, map-Expr, map-Comparison, fold-roll-Expr, fold_out-Comparison}
 use Rattle.source_trees.specs.declared.expression.Expr.TheVariants as expr
 use Rattle.source_trees.specs.declared.expression.Comparison.{Comparison, roll-Comparison}
 use Rattle.source_trees.specs.declared.statement.LoopNames.{LoopNames}
 use Rattle.source_trees.specs.declared.statement.LoopNames.TheVariants as names
 use Rattle.source_trees.specs.Bare.{bare, bare_name, bare_loop_names, bare_expr, bare_comparison, bare_optional}
 use Rattle.source_trees.specs.Nodes.{joined, before_parts, nodes_of_expr}
-use Rattle.source_trees.specs.Parts.{of_name, of_loop_names, of_expr, of_comparison, optional}
+use Rattle.source_trees.specs.Parts.{of_name, of_loop_names, of_comparison, optional}
 use Rattle.source_trees.proofs.Equations as q
 use Rattle.bare_trees.proofs.BareForms as shape
 

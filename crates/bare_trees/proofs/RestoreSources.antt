@@ -16,10 +16,10 @@ use Rattle.source_trees.specs.declared.item.Param.{Param}
 use Rattle.source_trees.specs.declared.node.Name.{Name}
 use Rattle.source_trees.specs.declared.node.Node.{Node}
 use Rattle.source_trees.specs.declared.statement.Stmt.{Stmt}
-use Rattle.source_trees.specs.Bare.{bare, bare_name, bare_expr, bare_optional, bare_annotation, bare_stmt, bare_param, bare_function, bare_member, bare_class, bare_item, bare_module}
-use Rattle.source_trees.specs.Nodes.{joined, before_parts, nodes_of_annotation, nodes_of_stmt, nodes_of_param, nodes_of_function, nodes_of_member, nodes_of_class, nodes_of_item, nodes_of, numbers_from, IsNumbered}
+use Rattle.source_trees.specs.Bare.{bare_name, bare_expr, bare_optional, bare_annotation, bare_stmt, bare_param, bare_function, bare_member, bare_class, bare_item, bare_module}
+use Rattle.source_trees.specs.Nodes.{before_parts, nodes_of_annotation, nodes_of_stmt, nodes_of_param, nodes_of_function, nodes_of_member, nodes_of_class, nodes_of_item, nodes_of, numbers_from, IsNumbered}
 use Rattle.source_trees.specs.Parts.{of_name, of_optional_annotation, of_optional_expr, of_module}
-use Rattle.bare_trees.proofs.Restore.{State, headed, ret, seq, all, opt, ids, Good, Parts, ret_parts, seq_parts, one, good_headed, all_parts, each_by, restore_name, restore_expr}
+use Rattle.bare_trees.proofs.Restore.{State, headed, ret, seq, all, opt, ids, Good, Parts, ret_parts, seq_parts, good_headed, all_parts, each_by, restore_name, restore_expr}
 use Rattle.bare_trees.proofs.RestoreStatements.{made, good_made, name_one, option_parts, restore_type, type_one, restore_stmt, good_stmt, stmts_parts}
 
 -- ---- functions

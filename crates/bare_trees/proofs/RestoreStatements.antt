@@ -1,5 +1,5 @@
 -- The same of types, statements, functions, classes and sources.
-use Rattle.std.proofs.Common.{◌≡◌, ℕ, List, [], ◌∷◌, ◌++◌, map, Option, Some, None, refl, sym, ◌∙◌, ap, subst, append_assoc}
+use Rattle.std.proofs.Common.{◌≡◌, ℕ, List, [], ◌∷◌, ◌++◌, map, Option, Some, None, sym, ◌∙◌, ap, subst, append_assoc}
 use Rattle.std.specs.List.{flat_map}
 use Rattle.std.specs.Option.{option_map}
 use Rattle.source_trees.specs.declared.operator.BinaryOp.{BinaryOp}
@@ -28,7 +28,7 @@ use Rattle.source_trees.specs.declared.statement.Targets.{Targets}
 use Rattle.source_trees.specs.declared.statement.Targets.TheVariants as targets
 use Rattle.source_trees.specs.Bare.{bare, bare_name, bare_loop_names, bare_expr, bare_optional, bare_annotation, bare_target, bare_targets, bare_print_options, bare_printed, bare_stage_form, bare_stage, bare_stmt, bare_arm, bare_for}
 use Rattle.source_trees.specs.Nodes.{joined, before_parts, nodes_of_expr, nodes_of_annotation, nodes_of_target, nodes_of_targets, nodes_of_stage, nodes_of_stmt, nodes_of_for}
-use Rattle.source_trees.specs.Parts.{of_name, of_loop_names, of_optional_expr, of_optional_annotation, of_print_options, of_printed, of_stage_form, of_arm}
+use Rattle.source_trees.specs.Parts.{of_name, of_loop_names, of_optional_expr, of_print_options, of_printed, of_stage_form, of_arm}
 use Rattle.source_trees.proofs.Equations as q
 use Rattle.bare_trees.proofs.BareForms as shape
 use Rattle.bare_trees.proofs.Restore.{State, headed, ret, seq, all, opt, Good, Parts, ret_parts, seq_parts, one, good_headed, good_by, Each, all_parts, each_by, restore_name, good_name, restore_loop, loop_parts, restore_expr, good_expr}

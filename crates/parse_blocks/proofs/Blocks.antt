@@ -14,7 +14,6 @@ use Rattle.parse_laws.specs.Limits.{Limited}
 use Rattle.parse_laws.specs.Loops.{Listed, last, trailing, another}
 use Rattle.parse_laws.proofs.Forms.{free_never}
 use Rattle.parse_laws.proofs.Limits.{same_law, join_law, open_limited, close_limited, either_law}
-use Rattle.parse_laws.proofs.Lists.{FitEach}
 use Rattle.parse_laws.proofs.Repeats.{at_head}
 use Rattle.grammar_rules.specs.Expressions.{IsExpr}
 use Rattle.grammar_rules.specs.Simple.{IsSimple, pass}

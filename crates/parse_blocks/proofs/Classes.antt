@@ -1,5 +1,5 @@
 -- The law of classes.
-use Rattle.std.proofs.Common.{◌≡◌, ℕ, ◌+◌, ◌-◌, ◌≤◌, ◌<◌, max, nat_lt, nat_le, Bool, true, false, not, ◌||◌, ◌&&◌, List, [], ◌∷◌, ◌++◌, length, map, refl, sym, ◌∙◌, ap, subst, append_assoc, inl, inr, Option, Some, None, codes, arith}
+use Rattle.std.proofs.Common.{◌≡◌, ℕ, ◌+◌, ◌-◌, ◌≤◌, max, Bool, true, false, not, ◌||◌, ◌&&◌, List, [], ◌∷◌, ◌++◌, length, map, refl, sym, ◌∙◌, ap, subst, append_assoc, inl, inr, Option, Some, None, codes, arith}
 use Rattle.std.proofs.lemmas.List.{append-nil}
 use Rattle.std.proofs.lemmas.Bool.{ltb-true, lt-ltb}
 use Rattle.indent_lexer.specs.declared.token.Token.{Token}
@@ -14,11 +14,11 @@ use Rattle.source_trees.specs.declared.node.Name.{Name}
 use Rattle.source_trees.specs.declared.node.Node.{Node}
 use Rattle.source_trees.specs.Heights.{highest, height_of_annotation, height_of_member, height_of_class, height_of_function}
 use Rattle.parse_laws.specs.Parser.{Parser, and_then, sees, in_table, pure, expect, take_by, choose, repeat, ◌>>=◌, ◌>>◌}
-use Rattle.parse_laws.specs.Language.{Language, Free, Viable, Law}
-use Rattle.parse_laws.specs.Forms.{Then, Made, Is, Ends, Opens, Closes, Picks, Either, never}
+use Rattle.parse_laws.specs.Language.{Language, Viable, Law}
+use Rattle.parse_laws.specs.Forms.{Then, Made, Ends, Opens, Closes, Picks, Either, never}
 use Rattle.parse_laws.specs.Limits.{Limited}
 use Rattle.parse_laws.specs.Loops.{Turns, done, next, Repeated}
-use Rattle.parse_laws.proofs.Forms.{wider_at, free_never, rename_law}
+use Rattle.parse_laws.proofs.Forms.{free_never}
 use Rattle.parse_laws.proofs.Limits.{same_law, join_law, made_limited, open_limited, close_limited, end_limited, either_law, take_limited}
 use Rattle.parse_laws.proofs.Lists.{FitEach}
 use Rattle.parse_laws.proofs.Repeats.{at_head, repeat_law}
@@ -28,8 +28,8 @@ use Rattle.grammar_rules.specs.Types.{IsType}
 use Rattle.grammar_rules.specs.Words.{is_newline, is_newline_kind, is_indent, is_dedent, is_dedent_kind, is_spelled, op_in, keyword_in, name_in, text_in, name_of, text_of, named_by, name_at, node_at, most_items}
 use Rattle.parse_expressions.specs.Reading.{is_name, is_text, text_at, text_from}
 use Rattle.parse_expressions.proofs.Leaves.{Free_of_limit}
-use Rattle.parse_expressions.proofs.Opens.{sample, x_token, op_token, name_spelling}
-use Rattle.parse_expressions.proofs.Tokens.{op_kind, keyword_kind, or_first, or_second}
+use Rattle.parse_expressions.proofs.Opens.{x_token, name_spelling}
+use Rattle.parse_expressions.proofs.Tokens.{keyword_kind, or_first, or_second}
 use Rattle.parse_statements.specs.Readers.{Readers, Exact, LowType, type_on}
 use Rattle.parse_statements.specs.Simple.{is_colon}
 use Rattle.parse_statements.proofs.Tails.{type_token, type_tree, least_type, type_low}
@@ -37,7 +37,7 @@ use Rattle.parse_blocks.specs.Functions as reading
 use Rattle.parse_blocks.specs.Functions.{is_def, is_class, is_pass, class_of_members, takes_field, may_join, starts_member, members_on}
 use Rattle.parse_blocks.proofs.Blocks.{pass_token, colon_token, newline_token, indent_token, dedent_token}
 use Rattle.parse_blocks.proofs.Functions.{LowFunction, function_opens, function_law, x_name}
-use Rattle.parse_blocks.proofs.Marks.{not_it, not_both, false_not, neither}
+use Rattle.parse_blocks.proofs.Marks.{not_it, not_both}
 
 -- ---- heights
 

@@ -12,7 +12,7 @@ use Rattle.source_trees.specs.declared.statement.LoopNames.TheVariants.{One}
 use Rattle.source_trees.specs.declared.statement.ParOptions.{ParOptions}
 use Rattle.source_trees.specs.declared.statement.Stmt.{Stmt}
 use Rattle.source_trees.specs.declared.statement.Stmt.TheVariants as stmt
-use Rattle.parse_laws.specs.Parser.{Parser, and_then, sees, pure, expect, ◌>>=◌, ◌>>◌}
+use Rattle.parse_laws.specs.Parser.{Parser, and_then, sees, pure, expect, ◌>>=◌}
 use Rattle.parse_laws.specs.Language.{Language, Free, Viable, Law}
 use Rattle.parse_laws.specs.Forms.{Then, Made, Is, Opens, Either, never}
 use Rattle.parse_laws.specs.Limits.{Limited}
@@ -30,11 +30,11 @@ use Rattle.parse_expressions.specs.Forms.{Low}
 use Rattle.parse_expressions.specs.Reading.{is_if, is_else, is_for, is_in, names}
 use Rattle.parse_expressions.proofs.Leaves.{Free_of_limit, names_carry, names_law}
 use Rattle.parse_expressions.proofs.Lows.{x_low}
-use Rattle.parse_expressions.proofs.Opens.{sample, x_token, x_tree, op_token, keyword_token}
+use Rattle.parse_expressions.proofs.Opens.{sample, x_token, x_tree, keyword_token}
 use Rattle.parse_statements.specs.Items.{items, items_on}
 use Rattle.parse_statements.specs.Many.{Many, none, more, many}
 use Rattle.parse_statements.specs.Options.{par_options}
-use Rattle.parse_statements.specs.Readers.{Readers, Exact, LowStmt}
+use Rattle.parse_statements.specs.Readers.{Readers, Exact}
 use Rattle.parse_statements.specs.Simple.{is_colon}
 use Rattle.parse_statements.specs.Stages.{is_bracket}
 use Rattle.parse_statements.proofs.Heads.{least_items}
@@ -43,9 +43,9 @@ use Rattle.parse_statements.proofs.Many.{Follows, many_law}
 use Rattle.parse_statements.proofs.Options.{par_options_law}
 use Rattle.parse_blocks.specs.Blocks as reading
 use Rattle.parse_blocks.specs.Blocks.{is_elif, is_while, is_at, is_par, starts_stmt, stmt_on, arm_of}
-use Rattle.parse_blocks.proofs.Blocks.{pass_tree, pass_block, least_block, pass_low, newline_token, block_opens, StmtLaw, block_law, Conditioned, conditioned_some, conditioned_law}
+use Rattle.parse_blocks.proofs.Blocks.{pass_tree, pass_block, least_block, pass_low, newline_token, block_opens, StmtLaw, block_law, conditioned_some, conditioned_law}
 use Rattle.parse_blocks.proofs.Heights.{LowBody, LowArm, if_low, low_if, while_low, low_while, LowFor, for_low, low_for, par_height}
-use Rattle.parse_blocks.proofs.Marks.{elif_on, else_on, else_no_elif, on_elif, colon_items, in_names, newline_bracket}
+use Rattle.parse_blocks.proofs.Marks.{else_on, else_no_elif, on_elif, colon_items, in_names, newline_bracket}
 
 -- ---- the arms of `elif` and `else`
 

@@ -1,6 +1,5 @@
 -- The law of functions.
-use Rattle.std.proofs.Common.{◌≡◌, ℕ, ◌+◌, ◌-◌, ◌≤◌, max, nat_le, Bool, true, false, not, ◌||◌, List, [], ◌∷◌, ◌++◌, length, map, refl, sym, ◌∙◌, ap, subst, append_assoc, inl, inr, Option, Some, None, codes, arith}
-use Rattle.std.proofs.lemmas.List.{append-nil}
+use Rattle.std.proofs.Common.{◌≡◌, ℕ, ◌+◌, ◌-◌, ◌≤◌, max, Bool, true, false, not, ◌||◌, List, [], ◌∷◌, ◌++◌, map, refl, sym, ◌∙◌, ap, subst, append_assoc, inl, inr, Option, Some, None, codes, arith}
 use Rattle.indent_lexer.specs.declared.token.Token.{Token}
 use Rattle.indent_lexer.specs.declared.token.TokenKind.{TokenKind}
 use Rattle.indent_lexer.specs.declared.token.TokenKind.TheVariants as kind
@@ -9,12 +8,11 @@ use Rattle.source_trees.specs.declared.item.Annotation.{Annotation}
 use Rattle.source_trees.specs.declared.item.Function.{Function}
 use Rattle.source_trees.specs.declared.item.Param.{Param}
 use Rattle.source_trees.specs.declared.node.Name.{Name}
-use Rattle.source_trees.specs.declared.statement.Stmt.{Stmt}
-use Rattle.source_trees.specs.Heights.{highest, over_parts, height_of_expr, height_of_annotation, height_of_stmt, height_of_param, height_of_function}
+use Rattle.source_trees.specs.Heights.{highest, over_parts, height_of_param, height_of_function}
 use Rattle.source_trees.specs.Parts.{of_optional_annotation, of_optional_expr}
 use Rattle.source_trees.proofs.HeightForms.{function_height}
 use Rattle.source_trees.proofs.Highest.{highest-append}
-use Rattle.parse_laws.specs.Parser.{Parser, and_then, sees, in_table, pure, expect, take_by, ◌>>=◌, ◌>>◌}
+use Rattle.parse_laws.specs.Parser.{and_then, sees, in_table, pure, expect, take_by, ◌>>=◌}
 use Rattle.parse_laws.specs.Language.{Language, Free, Viable, Law}
 use Rattle.parse_laws.specs.Forms.{Then, Made, Is, Opens, Picks, Either, never}
 use Rattle.parse_laws.specs.Limits.{Limited}
@@ -36,15 +34,15 @@ use Rattle.parse_expressions.specs.Reading.{is_name}
 use Rattle.parse_expressions.proofs.Leaves.{Free_of_limit}
 use Rattle.parse_expressions.proofs.Least.{least}
 use Rattle.parse_expressions.proofs.Lows.{x_low}
-use Rattle.parse_expressions.proofs.Opens.{sample, x_token, x_tree, op_token, name_spelling}
+use Rattle.parse_expressions.proofs.Opens.{x_token, x_tree, op_token, name_spelling}
 use Rattle.parse_expressions.proofs.Tokens.{op_kind, or_first, or_none}
 use Rattle.parse_statements.specs.Heads.{is_equals}
 use Rattle.parse_statements.specs.Prints.{is_bracket_end, printed_on, print_item_on}
-use Rattle.parse_statements.specs.Readers.{Readers, Exact, LowType, expr_on, type_on, has_room}
+use Rattle.parse_statements.specs.Readers.{Readers, Exact, LowType, type_on, has_room}
 use Rattle.parse_statements.specs.Simple.{is_colon}
 use Rattle.parse_statements.specs.Stages.{is_bracket}
-use Rattle.parse_statements.proofs.Marks.{either_word, one_word}
-use Rattle.parse_statements.proofs.Prints.{item_expr, comma_item, printed_item, comma_printed, expr_here}
+use Rattle.parse_statements.proofs.Marks.{either_word}
+use Rattle.parse_statements.proofs.Prints.{comma_item, printed_item, comma_printed, expr_here}
 use Rattle.parse_statements.proofs.Tails.{type_token, type_tree, least_type, type_low}
 use Rattle.parse_blocks.specs.Blocks.{block}
 use Rattle.parse_blocks.specs.Functions as reading

@@ -1,5 +1,5 @@
 -- The law of items one after the other, each of which is a list.
-use Rattle.std.proofs.Common.{◌≡◌, Bool, true, false, List, [], ◌∷◌, ◌++◌, length, refl, sym, ◌∙◌, ap, subst, append_assoc, arith}
+use Rattle.std.proofs.Common.{◌≡◌, Bool, true, List, [], ◌∷◌, ◌++◌, length, refl, sym, ◌∙◌, ap, subst, append_assoc, arith}
 use Rattle.std.proofs.lemmas.List.{append-nil}
 use Rattle.parse_laws.specs.Parser.{Parser, sees, pure, ◌>>=◌}
 use Rattle.parse_laws.specs.Language.{Language, Free, Law}

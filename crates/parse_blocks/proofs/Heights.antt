@@ -1,5 +1,5 @@
 -- The heights of statements with blocks.
-use Rattle.std.proofs.Common.{◌≡◌, ℕ, ◌+◌, ◌-◌, ◌≤◌, max, List, [], ◌∷◌, ◌++◌, map, ap, ◌∙◌, arith}
+use Rattle.std.proofs.Common.{◌≡◌, ℕ, ◌+◌, ◌-◌, ◌≤◌, max, List, [], ◌∷◌, map, ap, ◌∙◌, arith}
 use Rattle.std.specs.List.{flat_map}
 use Rattle.source_trees.specs.declared.expression.Expr.{Expr}
 use Rattle.source_trees.specs.declared.node.Node.{Node}
@@ -9,7 +9,7 @@ use Rattle.source_trees.specs.declared.statement.ParOptions.{ParOptions}
 use Rattle.source_trees.specs.declared.statement.Stmt.{Stmt}
 use Rattle.source_trees.specs.declared.statement.Stmt.TheVariants as stmt
 use Rattle.source_trees.specs.Heights.{highest, over_parts, height_of_expr, height_of_stmt, height_of_arm, height_of_for}
-use Rattle.source_trees.specs.Parts.{of_arm, of_loop_names}
+use Rattle.source_trees.specs.Parts.{of_arm}
 use Rattle.source_trees.proofs.HeightForms.{highest_arms, for_height}
 use Rattle.source_trees.proofs.Highest.{highest-append}
 use Rattle.parse_laws.proofs.Lists.{FitEach}

@@ -1,17 +1,17 @@
 -- What the tokens that begin, carry on and end statements say of each other.
-use Rattle.std.proofs.Common.{◌≡◌, nat_le, Bool, true, false, not, ◌||◌, List, [], ◌∷◌, ◌++◌, refl, sym, ◌∙◌, ap, append_assoc, codes}
+use Rattle.std.proofs.Common.{◌≡◌, nat_le, Bool, true, false, not, ◌||◌, refl, ap, codes}
 use Rattle.indent_lexer.specs.declared.token.Token.{Token}
 use Rattle.indent_lexer.specs.declared.token.TokenKind.{TokenKind}
 use Rattle.indent_lexer.specs.declared.token.TokenKind.TheVariants as kind
 use Rattle.parse_laws.specs.Parser.{in_table}
-use Rattle.grammar_rules.specs.Words.{is_op, is_keyword, is_newline, is_newline_kind, is_dedent, is_dedent_kind, is_spelled, op_in, keyword_in, name_in, named_by}
+use Rattle.grammar_rules.specs.Words.{is_newline, is_newline_kind, is_dedent, is_dedent_kind, is_spelled, op_in, keyword_in, name_in, named_by}
 use Rattle.parse_expressions.specs.Forms.{carried_by, opened_by}
 use Rattle.parse_expressions.specs.Reading.{is_if, is_else, is_for, is_in}
 use Rattle.parse_expressions.proofs.Leaves.{names_carry}
 use Rattle.parse_expressions.proofs.Tokens.{op_kind, keyword_kind, not_keyword, not_op, or_second}
 use Rattle.parse_statements.specs.Items.{closes_in, items_on}
 use Rattle.parse_statements.specs.Lines.{is_led, starts_simple}
-use Rattle.parse_statements.specs.Readers.{expr_on, type_on}
+use Rattle.parse_statements.specs.Readers.{expr_on}
 use Rattle.parse_statements.specs.Simple.{is_colon, lead_in}
 use Rattle.parse_statements.specs.Stages.{is_bracket}
 use Rattle.parse_blocks.specs.Blocks.{is_elif, is_while, is_at, starts_stmt, stmt_on, stmts_on}

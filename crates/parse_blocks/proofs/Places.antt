@@ -1,19 +1,19 @@
 -- A list of tokens has a tree or the place of its first bad token, never both, and one of them at most.
-use Rattle.std.proofs.Common.{◌≡◌, ℕ, ◌+◌, ◌-◌, ◌<◌, ◌≤◌, Bool, true, false, List, [], ◌∷◌, ◌++◌, length, take, drop, slice_get, refl, sym, ◌∙◌, ap, subst, append_assoc, ◌⊎◌, inl, inr, Option, Some, None, arith}
+use Rattle.std.proofs.Common.{◌≡◌, ℕ, ◌+◌, ◌-◌, true, List, [], ◌∷◌, ◌++◌, length, take, drop, slice_get, refl, sym, ◌∙◌, ap, subst, ◌⊎◌, inl, inr, Some, arith}
 use Rattle.std.proofs.lemmas.List.{append-nil, length-append, take-append-drop}
 use Rattle.indent_lexer.specs.declared.token.Token.{Token}
 use Rattle.indent_lexer.specs.declared.token.TokenKind.TheVariants as kind
 use Rattle.source_trees.specs.declared.item.Module.{Module}
 use Rattle.parse_laws.specs.declared.cause.Cause.{Cause}
 use Rattle.parse_laws.specs.declared.cause.Cause.TheVariants.{Unexpected, TooDeep}
-use Rattle.parse_laws.specs.Parser.{Outcome, Parsed, Stopped, Parser, and_then, ended, all_of}
+use Rattle.parse_laws.specs.Parser.{Outcome, Parsed, Stopped, and_then, ended}
 use Rattle.parse_laws.specs.Language.{Language, Viable, ViableIfAny, Law}
 use Rattle.parse_laws.specs.Forms.{any}
 use Rattle.parse_laws.specs.Place.{IsFirstBad}
 use Rattle.parse_laws.proofs.Whole.{only_value, no_refusal, first_bad}
 use Rattle.grammar_rules.specs.declared.refusal.ParseRefusal.{ParseRefusal}
 use Rattle.grammar_rules.specs.Modules.{Derives, module_of, no_more, most_height}
-use Rattle.grammar_rules.specs.Refusals.{IsLow, IsParsePlace, kind_of}
+use Rattle.grammar_rules.specs.Refusals.{IsParsePlace, kind_of}
 use Rattle.grammar_rules.specs.Words.{is_end}
 use Rattle.parse_expressions.proofs.Opens.{sample}
 use Rattle.parse_statements.specs.Readers.{Readers, Exact}

@@ -1,16 +1,14 @@
 -- The law of whole sources.
-use Rattle.std.proofs.Common.{◌≡◌, ℕ, ◌+◌, ◌-◌, ◌≤◌, max, nat_le, Bool, true, false, not, ◌||◌, List, [], ◌∷◌, ◌++◌, map, refl, sym, ◌∙◌, ap, subst, inl, inr, codes, arith}
+use Rattle.std.proofs.Common.{◌≡◌, ℕ, ◌≤◌, Bool, true, false, not, ◌||◌, List, [], ◌∷◌, ◌++◌, map, refl, sym, ap, subst, inl, inr, codes, arith}
 use Rattle.indent_lexer.specs.declared.token.Token.{Token}
 use Rattle.indent_lexer.specs.declared.token.TokenKind.{TokenKind}
 use Rattle.indent_lexer.specs.declared.token.TokenKind.TheVariants as kind
-use Rattle.source_trees.specs.declared.item.Class.{Class}
-use Rattle.source_trees.specs.declared.item.Function.{Function}
 use Rattle.source_trees.specs.declared.item.Item.{Item}
 use Rattle.source_trees.specs.declared.item.Item.TheVariants as item
 use Rattle.source_trees.specs.declared.item.Module.{Module}
 use Rattle.source_trees.specs.declared.statement.Stmt.{Stmt}
 use Rattle.source_trees.specs.Heights.{highest, height_of_item, height_of}
-use Rattle.parse_laws.specs.Parser.{Parser, and_then, sees, pure, expect, choose, all_of, ◌>>=◌, ◌>>◌}
+use Rattle.parse_laws.specs.Parser.{sees, pure, choose, ◌>>=◌}
 use Rattle.parse_laws.specs.Language.{Language, Free, Law}
 use Rattle.parse_laws.specs.Forms.{Made, Closes, Either, any}
 use Rattle.parse_laws.specs.Limits.{Limited}
@@ -22,10 +20,10 @@ use Rattle.grammar_rules.specs.Modules as g
 use Rattle.grammar_rules.specs.Modules.{IsFunction, IsClass, IsTop, IsTops, Derives, most_height}
 use Rattle.grammar_rules.specs.Refusals.{IsLow}
 use Rattle.grammar_rules.specs.Statements.{IsStmt}
-use Rattle.grammar_rules.specs.Words.{is_keyword, is_end, is_end_kind, is_spelled, keyword_in, op_in}
+use Rattle.grammar_rules.specs.Words.{is_end, is_end_kind, is_spelled, keyword_in}
 use Rattle.parse_expressions.proofs.Opens.{sample}
 use Rattle.parse_expressions.proofs.Tokens.{keyword_kind, not_keyword, or_first, or_second}
-use Rattle.parse_statements.specs.Readers.{Readers, Exact, LowStmt}
+use Rattle.parse_statements.specs.Readers.{Readers, Exact}
 use Rattle.parse_statements.proofs.Many.{Follows}
 use Rattle.parse_blocks.specs.Blocks.{starts_stmt, stmt_on, statement}
 use Rattle.parse_blocks.specs.Functions.{is_def, is_class, function, class}

@@ -1,5 +1,5 @@
 -- The law of statements, at every height.
-use Rattle.std.proofs.Common.{◌≡◌, ℕ, zero, suc, ◌+◌, ◌-◌, ◌≤◌, nat_le, Bool, true, false, List, [], ◌∷◌, ◌++◌, refl, sym, ◌∙◌, ap, subst, append_assoc, inl, inr, arith}
+use Rattle.std.proofs.Common.{◌≡◌, ℕ, zero, suc, ◌-◌, ◌≤◌, nat_le, Bool, true, false, List, [], ◌∷◌, ◌++◌, refl, sym, ◌∙◌, ap, subst, inl, inr, arith}
 use Rattle.std.proofs.lemmas.List.{append-nil}
 use Rattle.std.proofs.lemmas.Bool.{leb-true, le-leb}
 use Rattle.indent_lexer.specs.declared.token.Token.{Token}
@@ -7,8 +7,8 @@ use Rattle.source_trees.specs.declared.statement.For.{For}
 use Rattle.source_trees.specs.declared.statement.Stmt.{Stmt}
 use Rattle.source_trees.specs.declared.statement.Stmt.TheVariants as stmt
 use Rattle.parse_laws.specs.Parser.{Parser, sees, pure, choose, within, ◌>>=◌}
-use Rattle.parse_laws.specs.Language.{Language, Free, Viable, Law}
-use Rattle.parse_laws.specs.Forms.{Then, Made, Either}
+use Rattle.parse_laws.specs.Language.{Language, Free, Law}
+use Rattle.parse_laws.specs.Forms.{Made, Either}
 use Rattle.parse_laws.specs.Limits.{Limited}
 use Rattle.parse_laws.proofs.Forms.{rename_law}
 use Rattle.parse_laws.proofs.Limits.{same_law, made_limited, either_law, limit_law}

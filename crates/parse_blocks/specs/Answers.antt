@@ -1,5 +1,5 @@
 -- What a list of tokens has: a tree within the limit of height, or the place of its first bad token.
-use Rattle.std.specs.Prelude.{◌≡◌, true, List, [], ◌∷◌, ◌++◌, ◌⊎◌}
+use Rattle.std.specs.Prelude.{◌≡◌, true, List, [], ◌∷◌, ◌++◌}
 use Rattle.indent_lexer.specs.declared.token.Token.{Token}
 use Rattle.source_trees.specs.declared.item.Module.{Module}
 use Rattle.parse_laws.specs.Language.{Language}

@@ -1,5 +1,5 @@
 -- Items one after the other, each of which is a list: all of them in one list.
-use Rattle.std.specs.Prelude.{Bool, List, [], ◌∷◌, ◌++◌, length}
+use Rattle.std.specs.Prelude.{Bool, List, [], ◌++◌, length}
 use Rattle.parse_laws.specs.Parser.{Parser, ◌>>=◌, pure, repeat}
 use Rattle.parse_laws.specs.Language.{Language}
 
