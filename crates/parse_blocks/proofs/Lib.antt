@@ -10,3 +10,4 @@ pub mod Sources
 pub mod NoEnd
 pub mod Places
 pub mod Trees
+pub mod Texts

@@ -1,15 +1,16 @@
 ghost use Rattle.std.specs.Prelude.{◌≡◌, ℕ, ◌≤◌, Bool, List, ◌⊎◌};
 ghost use Rattle.indent_lexer.specs.declared.token.Token.{Token};
+ghost use Rattle.indent_lexer.specs.Tokens.{Tokens};
 ghost use Rattle.source_trees.specs.declared.item.Module.{Module};
 ghost use Rattle.parse_laws.specs.Forms.{any};
 ghost use Rattle.parse_laws.specs.Language.{Law};
 ghost use Rattle.parse_laws.specs.Limits.{Limited};
 ghost use Rattle.grammar_rules.specs.declared.refusal.ParseRefusal.{ParseRefusal};
-ghost use Rattle.grammar_rules.specs.Modules.{Derives, Tree as IsTree};
+ghost use Rattle.grammar_rules.specs.Modules.{Derives, Source, Tree as IsTree};
 ghost use Rattle.grammar_rules.specs.Refusals.{IsParsePlace};
 ghost use Rattle.grammar_rules.specs.Statements.{IsStmt, IsStmts, IsBlock};
 ghost use Rattle.parse_statements.specs.Readers.{Readers, Exact, LowStmts};
-ghost use Rattle.parse_blocks.specs.Answers.{IsText, DerivesLow, HasTree, HasNumberedTree, HasPlace};
+ghost use Rattle.parse_blocks.specs.Answers.{IsText, DerivesLow, HasTree, HasNumberedTree, HasPlace, HasSource};
 ghost use Rattle.parse_blocks.specs.Blocks.{stmt_on, stmts_on, statement, stmts, block};
 ghost use Rattle.parse_blocks.specs.Sources.{source};
 
@@ -34,4 +35,11 @@ pub fn law_of_trees()
     ensures apart { (ts : List Token) (m : Module) (p : ParseRefusal) → IsTree ts m → IsParsePlace ts p → ⊥ }
     ensures one_tree { (r : Readers) → Exact r → (ts : List Token) (m w : Module) → IsTree ts m → IsTree ts w → w ≡ m }
     ensures one_place { (ts : List Token) (p q : ParseRefusal) → IsParsePlace ts p → IsParsePlace ts q → p ≡ q }
+{}
+
+/// The tokens of a source text end with its end, so that the text has a tree or the place of its first bad token; and it has at most one tree.
+pub fn law_of_texts()
+    ensures ended { (b : List ℕ) (ts : List Token) → Tokens b ts → IsText ts }
+    ensures decided { (r : Readers) → Exact r → (b : List ℕ) (ts : List Token) → Tokens b ts → HasSource b ⊎ HasPlace ts }
+    ensures one_tree { (r : Readers) → Exact r → (b : List ℕ) (m w : Module) → Source b m → Source b w → w ≡ m }
 {}
