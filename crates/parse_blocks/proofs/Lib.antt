@@ -11,3 +11,4 @@ pub mod NoEnd
 pub mod Places
 pub mod Trees
 pub mod Texts
+pub mod Whole

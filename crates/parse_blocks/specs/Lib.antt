@@ -3,3 +3,4 @@ pub mod Blocks
 pub mod Functions
 pub mod Sources
 pub mod Answers
+pub mod Whole

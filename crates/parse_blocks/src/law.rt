@@ -2,9 +2,11 @@ ghost use Rattle.std.specs.Prelude.{◌≡◌, ℕ, ◌≤◌, Bool, List, ◌�
 ghost use Rattle.indent_lexer.specs.declared.token.Token.{Token};
 ghost use Rattle.indent_lexer.specs.Tokens.{Tokens};
 ghost use Rattle.source_trees.specs.declared.item.Module.{Module};
+ghost use Rattle.source_trees.specs.declared.expression.Expr.{Expr};
 ghost use Rattle.parse_laws.specs.Forms.{any};
 ghost use Rattle.parse_laws.specs.Language.{Law};
 ghost use Rattle.parse_laws.specs.Limits.{Limited};
+ghost use Rattle.parse_laws.specs.Parser.{Parser};
 ghost use Rattle.grammar_rules.specs.declared.refusal.ParseRefusal.{ParseRefusal};
 ghost use Rattle.grammar_rules.specs.Modules.{Derives, Source, Tree as IsTree};
 ghost use Rattle.grammar_rules.specs.Refusals.{IsParsePlace};
@@ -13,6 +15,7 @@ ghost use Rattle.parse_statements.specs.Readers.{Readers, Exact, LowStmts};
 ghost use Rattle.parse_blocks.specs.Answers.{IsText, DerivesLow, HasTree, HasNumberedTree, HasPlace, HasSource};
 ghost use Rattle.parse_blocks.specs.Blocks.{stmt_on, stmts_on, statement, stmts, block};
 ghost use Rattle.parse_blocks.specs.Sources.{source};
+ghost use Rattle.parse_blocks.specs.Whole.{readers_with, ReadsTargets};
 
 /// The parser of statements is exact at every limit of height, with all the blocks that a statement holds: a list of tokens has at most one tree, which it finds; and where it refuses a token, the tokens before it begin a statement within the limit, and with it they begin none, or none within the limit.
 pub fn law_of_statements()
@@ -42,4 +45,9 @@ pub fn law_of_texts()
     ensures ended { (b : List ℕ) (ts : List Token) → Tokens b ts → IsText ts }
     ensures decided { (r : Readers) → Exact r → (b : List ℕ) (ts : List Token) → Tokens b ts → HasSource b ⊎ HasPlace ts }
     ensures one_tree { (r : Readers) → Exact r → (b : List ℕ) (m w : Module) → Source b m → Source b w → w ≡ m }
+{}
+
+/// The parsers of expressions and types are exact, so that all that the parser of statements is made of is exact where the parser of what may be assigned to is.
+pub fn law_of_readers()
+    ensures { (target : ℕ → Parser Token Expr) → ReadsTargets target → Exact (readers_with target) }
 {}

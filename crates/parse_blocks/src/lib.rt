@@ -5,4 +5,4 @@
 
 mod law;
 
-pub use law::{law_of_sources, law_of_statements, law_of_texts, law_of_trees};
+pub use law::{law_of_readers, law_of_sources, law_of_statements, law_of_texts, law_of_trees};
