@@ -16,3 +16,4 @@ pub mod Shapes
 pub mod Leads
 pub mod Simples
 pub mod Lines
+pub mod Options

@@ -8,3 +8,4 @@ pub mod Stages
 pub mod Many
 pub mod Simple
 pub mod Lines
+pub mod Options

@@ -1,0 +1,7 @@
+pub mod BareForms
+pub mod Derived
+pub mod Restore
+pub mod RestoreStatements
+pub mod RestoreSources
+pub mod BareHeights
+pub mod Numbering

@@ -1,0 +1,14 @@
+pub mod Gather
+pub mod Marks
+pub mod Heights
+pub mod Blocks
+pub mod Compounds
+pub mod Statements
+pub mod Functions
+pub mod Classes
+pub mod Sources
+pub mod NoEnd
+pub mod Places
+pub mod Trees
+pub mod Texts
+pub mod Whole

@@ -1,0 +1,6 @@
+pub mod Gather
+pub mod Blocks
+pub mod Functions
+pub mod Sources
+pub mod Answers
+pub mod Whole
