@@ -1,4 +1,4 @@
-#![tactic(auto, unfolding(crate::specs::Outcome::bind, crate::specs::Outcome::pure, crate::specs::Outcome::stop), using(crate::proofs::Operated::operated))]
+#![tactic(auto, unfolding(crate::specs::Outcome::bind, crate::specs::Outcome::pure, crate::specs::Outcome::stop))]
 
 ghost use Rattle.codon_base.specs.declared.value.Value.{out-Value};
 ghost use Rattle.source_meaning.specs.Objects as objects;
@@ -106,16 +106,24 @@ pub(crate) fn builtin(alloc: Global, state: &mut State, which: Builtin, given: &
     ensures { Tells (spec.builtin in_place (builtin_of which) given.now (seen state.old)) result state.new }
 {
     match given {
-        [v] => {
-            let made = made_of_one(alloc, &state.store, which, v)?;
-            settled(state, made)
-        }
-        [v, w] => {
-            let made = made_of_two(alloc, which, v, w)?;
-            settled(state, made)
-        }
+        [v] => builtin_on_one(alloc, state, which, v),
+        [v, w] => builtin_on_two(alloc, state, which, v, w),
         _ => Err(wrong(alloc)),
     }
+}
+
+fn builtin_on_one(alloc: Global, state: &mut State, which: Builtin, v: &Value) -> Result<Value, Stop>
+    ensures { Tells (objects.operate in_place (spec.on_one (builtin_of which) v.now) (seen state.old)) result state.new }
+{
+    let made = made_of_one(alloc, &state.store, which, v)?;
+    settled(state, made)
+}
+
+fn builtin_on_two(alloc: Global, state: &mut State, which: Builtin, v: &Value, w: &Value) -> Result<Value, Stop>
+    ensures { Tells (objects.operate in_place (λ sight. spec.on_two (builtin_of which) v.now w.now) (seen state.old)) result state.new }
+{
+    let made = made_of_two(alloc, which, v, w)?;
+    settled(state, made)
 }
 
 fn made_of_one(alloc: Global, store: &Store, which: Builtin, v: &Value) -> Result<Made, Memory>

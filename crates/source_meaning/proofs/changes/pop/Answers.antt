@@ -1,7 +1,7 @@
 use Rattle.std.proofs.Common.{◌≡◌, ◌∙◌, ap, sym, List, length, Option, Some, None, negsuc}
 use Rattle.codon_base.specs.declared.value.Value.{Value}
 use Rattle.codon_base.specs.Sequences.{place_of}
-use Rattle.source_meaning.specs.Outcome.{Outcome, Stops, and_then, bind, stop}
+use Rattle.source_meaning.specs.Outcome.{Outcome, and_then, bind, stop}
 use Rattle.source_meaning.specs.Objects.{pop_last, placed}
 use Rattle.source_meaning.specs.Seen.{seen}
 use Rattle.source_meaning.specs.State.{Stop}
@@ -21,4 +21,4 @@ returns-in-None c = λ wanted.
     let new : State = record c.args.state.now { store = record c.args.state.now.store { heap = c.item_popped.new.heap } } in
     ap (λ (o : Outcome (List Value)). and_then o (λ items. pop_last c.args.at items (placed items (place_of (length items) (negsuc 0))))) c.in_ok-list_at.ensures.items
     ∙ popped_tells c.args.state.now c.item_popped.new.heap c.args.at c.in_ok-list_at.field-0.now None c.in_ok-list_at.ensures.found c.in-None.ensures
-    ∙ ap (λ (why : Stop). Stops {A = Value} why (seen new)) (sym (c.index_fault.ensures wanted))
+    ∙ ap (λ (why : Stop). stop {A = Value} why (seen new)) (sym (c.index_fault.ensures wanted))
