@@ -10,6 +10,7 @@ use Rattle.codon_base.specs.Walks.{Walked, going, ended, wrong_kind, lent_list, 
 use Rattle.codon_base.specs.Printed.{text_of}
 use Rattle.codon_base.specs.Operators.{Sight, Made, made, whole, after_walk, truth_of}
 use Rattle.codon_base.specs.ShowAnswers.{AnswersWhole}
+use denote.Hole.Carrier
 use Rattle.source_meaning.specs.Outcome.{Outcome, Gives, Stops, and_then, bind, look, pure}
 use Rattle.source_meaning.specs.Objects.{operate, settled, truth, one_of, text_in}
 use Rattle.source_meaning.specs.Printing.{text_of_value}
@@ -44,7 +45,7 @@ text_walked (Err or.Memory) walked h = tt
 text_walked _ _ h = absurd h
 
 pub text_given : (s : Run) (v : Value) (text : List ℕ) → AnswersWhole (Ok text) (text_of (whole (sight_of s.store)) nesting_limit false v 0) → text_of_value in_place v (seen s) ≡ Gives text (seen s)
-unfolding seen bind look pure
+unfolding seen bind look pure out-Value denote.Hole.Carrier.out
 text_given s v text h = ap (λ (m : Made). bind (settled m) (λ t. text_in (out-Value t)) (seen s)) (text_walked (Ok text) (text_of (whole (sight_of s.store)) nesting_limit false v 0) h)
 
 pub text_stops : (s : Run) (v : Value) (why : WalkEnd) (e : Stop) → AnswersWhole (Err (or.No why)) (text_of (whole (sight_of s.store)) nesting_limit false v 0) → IsEnd why e → e ≢ stop.Memory → text_of_value in_place v (seen s) ≡ Stops (why_of e) (seen s)
