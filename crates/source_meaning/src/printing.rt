@@ -74,6 +74,7 @@ fn push_bytes(out: &mut Bytes, bytes: &[u8]) -> Result<(), Memory>
 }
 
 /// The texts of values with one text between them, and another after them.
+#[tactic(auto, unfolding(crate::specs::Outcome::pure), using(crate::proofs::Pieces::joined_last))]
 fn joined(alloc: Global, state: &mut State, vs: &[Value], between: &Text, last: &Text) -> Result<Text, Stop>
     ensures { Tells (joined in_place vs.now between.now last.now (seen state.old)) result state.new }
 {
