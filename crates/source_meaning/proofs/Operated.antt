@@ -1,5 +1,5 @@
 -- What comes of what operators make.
-use Rattle.std.proofs.Common.{◌≡◌, ◌≢◌, refl, ap, sym, subst, ◌∙◌, List, ℕ, Bool, false, Result, Ok, Err}
+use Rattle.std.proofs.Common.{◌≡◌, ◌≢◌, refl, ap, sym, subst, ◌∙◌, List, ℕ, false, Result, Ok, Err}
 use Rattle.codon_base.specs.declared.value.Value.{Value, out-Value}
 use Rattle.codon_base.specs.declared.value.Value.TheVariants as value
 use Rattle.codon_base.specs.declared.memory.Or.{Or}

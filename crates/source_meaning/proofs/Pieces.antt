@@ -1,7 +1,6 @@
 -- The piece that a `print` writes, value by value.
 use Rattle.std.proofs.Common.{◌≡◌, refl, ap, sym, ◌∙◌, ℕ, ◌+◌, ◌<◌, ◌≤◌, List, [], ◌∷◌, ◌++◌, length, drop, get_or, append_assoc}
 use Rattle.std.proofs.lemmas.List.{append-nil}
-use Rattle.std.specs.List.{flat_map}
 use Rattle.codon_base.specs.declared.value.Value.{Value, out-Value}
 use Rattle.source_meaning.specs.State.{State}
 use Rattle.source_meaning.specs.Outcome.{Outcome, Gives, Stops, Run, and_then, bind, pure, write}
@@ -43,7 +42,7 @@ unfolding bind pure
 first_by rules v vs f s =
     chained (text_of_value rules v s) (λ text. bind (texts_of rules vs) (λ more. pure (text ∷ more))) (λ texts. pure (f texts))
     ∙ same_next (text_of_value rules v s) (λ text t. and_then (bind (texts_of rules vs) (λ more. pure (text ∷ more)) t) (λ texts. pure (f texts))) (λ text. bind (texts_of rules vs) (λ more. pure (f (text ∷ more))))
-        (λ text t. chained (texts_of rules vs t) (λ more. pure (text ∷ more)) (λ texts. pure (f texts)))
+    (λ text t. chained (texts_of rules vs t) (λ more. pure (text ∷ more)) (λ texts. pure (f texts)))
 
 followed_by : (rules : Rules) (v : Value) (vs : List Value) (sep piece : List ℕ) (s : State)
     → followed rules (v ∷ vs) sep piece s ≡ and_then (text_of_value rules v s) (λ text. followed rules vs sep ((piece ++ sep) ++ text))
@@ -51,7 +50,7 @@ unfolding bind
 followed_by rules v vs sep piece s =
     first_by rules v vs (λ texts. piece ++ led sep texts) s
     ∙ same_next (text_of_value rules v s) (λ text. bind (texts_of rules vs) (λ more. pure (piece ++ led sep (text ∷ more)))) (λ text. followed rules vs sep ((piece ++ sep) ++ text))
-        (λ text t. same_then (texts_of rules vs t) (λ more. piece ++ led sep (text ∷ more)) (λ more. ((piece ++ sep) ++ text) ++ led sep more) (led_next piece sep text))
+    (λ text t. same_then (texts_of rules vs t) (λ more. piece ++ led sep (text ∷ more)) (λ more. ((piece ++ sep) ++ text) ++ led sep more) (led_next piece sep text))
 
 separated_by : (rules : Rules) (v : Value) (vs : List Value) (sep : List ℕ) (s : State)
     → separated_texts rules (v ∷ vs) sep s ≡ and_then (text_of_value rules v s) (λ text. followed rules vs sep text)
@@ -59,7 +58,7 @@ unfolding bind
 separated_by rules v vs sep s =
     first_by rules v vs (separated sep) s
     ∙ same_next (text_of_value rules v s) (λ text. bind (texts_of rules vs) (λ more. pure (separated sep (text ∷ more)))) (λ text. followed rules vs sep text)
-        (λ text t. same_then (texts_of rules vs t) (λ more. separated sep (text ∷ more)) (λ more. text ++ led sep more) (separated_led sep text))
+    (λ text t. same_then (texts_of rules vs t) (λ more. separated sep (text ∷ more)) (λ more. text ++ led sep more) (separated_led sep text))
 
 -- the same from a place on
 pub followed_next : (rules : Rules) (all : List Value) (i : ℕ) (x : Value) (sep piece : List ℕ) (s : State) → i < length all → x ≡ get_or all i x

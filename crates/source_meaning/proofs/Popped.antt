@@ -1,5 +1,5 @@
 -- The last item of a list that is taken out.
-use Rattle.std.proofs.Common.{◌≡◌, ◌-◌, refl, ap, sym, subst, ◌∙◌, ℕ, suc, nat_lt, List, [], ◌∷◌, ◌++◌, length, take, Option, Some, None, negsuc, arith}
+use Rattle.std.proofs.Common.{◌≡◌, ◌-◌, refl, ap, sym, subst, ◌∙◌, ℕ, suc, List, [], ◌∷◌, ◌++◌, length, take, Option, Some, None, negsuc, arith}
 use Rattle.std.proofs.lemmas.Bool.{lt-ltb}
 use Rattle.std.specs.Prelude.{slice_get, if◌then◌else◌}
 use Rattle.std.proofs.Math.Seq.{take-append_seam}
@@ -66,7 +66,7 @@ pub popped_tells : (old : State) (after : List (List Object)) (at : Ref) (items 
 unfolding seen
 popped_tells old after at items (Some v) e (rest, (there, new)) =
     subst (λ vs. pop_last at vs (placed vs (place_of (length vs) (negsuc 0))) (seen old) ≡ Gives v (seen (heap_of old after)))
-      (sym (same_items items (rest ++ v ∷ []) (sym e ∙ there))) (popped_some old after at rest v new)
+    (sym (same_items items (rest ++ v ∷ []) (sym e ∙ there))) (popped_some old after at rest v new)
 popped_tells old after at items None e (empty, new) =
     subst (λ vs. pop_last at vs (placed vs (place_of (length vs) (negsuc 0))) (seen old) ≡ index_fault (seen (heap_of old after)))
-      (sym (no_items items (subst HasNoItem e empty))) (popped_none old after at new)
+    (sym (no_items items (subst HasNoItem e empty))) (popped_none old after at new)

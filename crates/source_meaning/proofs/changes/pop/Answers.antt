@@ -1,4 +1,4 @@
-use Rattle.std.proofs.Common.{◌≡◌, ◌∙◌, ap, sym, List, length, Option, Some, None, negsuc}
+use Rattle.std.proofs.Common.{◌∙◌, ap, sym, List, length, Some, None, negsuc}
 use Rattle.codon_base.specs.declared.value.Value.{Value}
 use Rattle.codon_base.specs.Sequences.{place_of}
 use Rattle.source_meaning.specs.Outcome.{Outcome, and_then, bind, stop}

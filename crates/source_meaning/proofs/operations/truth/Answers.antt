@@ -1,4 +1,4 @@
-use Rattle.std.proofs.Common.{◌≡◌, ◌∙◌, ap, sym, Bool, Option}
+use Rattle.std.proofs.Common.{◌∙◌, ap, sym, Bool, Option}
 use Rattle.source_meaning.specs.Outcome.{Stops, pure, stop}
 use Rattle.source_meaning.specs.Objects.{one_of}
 use Rattle.source_meaning.specs.Seen.{seen}
