@@ -16,7 +16,7 @@ use crate::lists::{
 use crate::prepared::Prepared;
 use crate::state::{State, Stop};
 use crate::variables::wrong;
-use codon_base::{Object, Ref, Spelling, Text, Value, Values};
+use codon_base::{Object, Ref, Spelling, Text, Value};
 use std::alloc::Global;
 use value_operators::{Made, place_of};
 
