@@ -1,7 +1,11 @@
 -- Calls of methods by what stands at the address of the object.
-use Rattle.std.proofs.Common.{◌≡◌, ℕ, false, if◌then◌else◌, List, [], ◌∷◌, Option, Some, None, refl, sym, ap, ◌∙◌}
-use Rattle.std.specs.Prelude.{slice_get, option_map}
-use Rattle.std.proofs.lemmas.Option.{slice_get-map}
+use Rattle.std.proofs.Common.{◌≡◌, ℕ, false, if◌then◌else◌, List, [], ◌∷◌, length, Option, Some, None, refl, sym, ap, ◌∙◌}
+use Rattle.std.specs.Prelude.{slice_get, option_map, codes}
+use Rattle.std.specs.Option.{option_copied}
+use Rattle.std.specs.Slice.{IsItemAt}
+use Rattle.std.specs.Borrow.{Bor}
+use Rattle.std.proofs.lemmas.Option.{slice_get-map, slice_get_past, slice_get_read}
+use Rattle.codon_base.specs.declared.fault.FaultKind.TheVariants as fault
 use Rattle.source_trees.specs.declared.item.Function.{Function}
 use Rattle.source_trees.specs.declared.item.Class.{Class}
 use Rattle.codon_base.specs.declared.value.Ref.{Ref}
@@ -9,7 +13,7 @@ use Rattle.codon_base.specs.declared.value.Value.{Value, out-Value}
 use Rattle.codon_base.specs.declared.object.Object.{Object}
 use Rattle.codon_base.specs.declared.object.Object.TheVariants.{List as Listed, Instance}
 use Rattle.codon_base.specs.Levels.{object_at}
-use Rattle.source_meaning.specs.State.{Spelling, State}
+use Rattle.source_meaning.specs.State.{Spelling, State, Faulted}
 use Rattle.source_meaning.specs.Outcome.{Outcome, Gives, Stops, Run, and_then, bind, pure, stop, look, wrong, ◌>>=◌}
 use Rattle.source_meaning.specs.Objects.{one_of, ref_in, object, instance_in}
 use Rattle.source_meaning.specs.Operations.{list_method}
@@ -19,7 +23,7 @@ use Rattle.source_meaning.specs.Task.{Setting}
 use Rattle.source_meaning.specs.Calls.{call, method_of}
 use Rattle.source_meaning.specs.Loops.{Iterable}
 use Rattle.source_meaning.specs.Expressions.{method_on, call_method, iterable_on, iterable_method, generated_by, items_of}
-use Rattle.source_meaning.specs.Kinds.{kind_of, found_method}
+use Rattle.source_meaning.specs.Kinds.{kind_of, found_method, told}
 use Rattle.source_meaning.specs.Tasks.{program_of}
 use Rattle.source_meaning.specs.Callees.{functions_in}
 use Rattle.source_meaning.specs.declared.prepared.KnownClass.{KnownClass}
@@ -27,10 +31,11 @@ use Rattle.source_meaning.specs.declared.prepared.Prepared.{Prepared}
 use Rattle.source_meaning.specs.declared.methods.Kind.{Kind}
 use Rattle.source_meaning.specs.declared.methods.Kind.TheVariants as kind
 
--- the method of a class that is known
-abbrev told : Option Function → Run Known
-told o = one_of o >>= λ f. pure (record { function = f; in_prelude = false })
+pub copied_at : (xs : List KnownClass) (i : ℕ) (r : Option (Bor KnownClass)) → IsItemAt xs i r → option_copied r ≡ slice_get xs i
+copied_at xs i None h = sym (slice_get_past xs i h.3)
+copied_at xs i (Some x) h = sym (slice_get_read xs (length xs) i x.now refl h.3.0 h.1)
 
+-- the method of a class that is known
 abbrev in_class : Spelling → Option Class → Run Known
 in_class name o = one_of o >>= λ c. told (function_named name (methods_of c))
 
@@ -40,7 +45,7 @@ found_known p class name c s h =
     ap (λ (o : Option Class). in_class name o s) (slice_get-map (λ c. c.class.now) p.classes.items class ∙ ap (option_map (λ c. c.class.now)) h)
     ∙ ap (λ (fs : List Function). told (function_named name fs) s) (sym c.has_methods)
 
-pub found_unknown : (p : Prepared) (class : ℕ) (name : Spelling) (s : State) → slice_get p.classes.items class ≡ None → found_method (program_of p) class name s ≡ wrong s
+pub found_unknown : (p : Prepared) (class : ℕ) (name : Spelling) (s : State) → slice_get p.classes.items class ≡ None → found_method (program_of p) class name s ≡ Stops (Faulted (record { kind = fault.Runtime; text = codes "wrong kind" })) s
 unfolding bind program_of stop
 found_unknown p class name s h = ap (λ (o : Option Class). in_class name o s) (slice_get-map (λ c. c.class.now) p.classes.items class ∙ ap (option_map (λ c. c.class.now)) h)
 
