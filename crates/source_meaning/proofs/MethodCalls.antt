@@ -21,9 +21,9 @@ use Rattle.source_meaning.specs.Program.{Known, function_named, methods_of}
 use Rattle.source_meaning.specs.Bodies.{yields}
 use Rattle.source_meaning.specs.Task.{Setting}
 use Rattle.source_meaning.specs.Calls.{call, method_of}
-use Rattle.source_meaning.specs.Loops.{Iterable}
+use Rattle.source_meaning.specs.Loops.{Iterable, Items}
 use Rattle.source_meaning.specs.Expressions.{method_on, call_method, iterable_on, iterable_method, generated_by, items_of}
-use Rattle.source_meaning.specs.Kinds.{kind_of, found_method, told}
+use Rattle.source_meaning.specs.Kinds.{kind_of, found_method, told, called_on, goes_over_on}
 use Rattle.source_meaning.specs.Tasks.{program_of}
 use Rattle.source_meaning.specs.Callees.{functions_in}
 use Rattle.source_meaning.specs.declared.prepared.KnownClass.{KnownClass}
@@ -93,7 +93,7 @@ module _ (here : Setting) (v : Value) (at : Ref) (name : Spelling) (given : List
       by (Some (Instance class fields)) h = cc
       by None h = cc
 
-  pub on_instance : (class : ℕ) → kind_of there ≡ kind.Instance class → call_method here v name given s ≡ and_then (found_method here.program class name s) (λ known. call here known (v ∷ given))
+  pub on_instance : (class : ℕ) → kind_of there ≡ kind.Instance class → call_method here v name given s ≡ called_on here v class name given s
   unfolding bind
   on_instance class h = call_on ∙ by there h ∙ ap (λ (o : Outcome Known). and_then o (λ known. call here known (v ∷ given))) (method_is ∙ ap by_kind h)
     where
@@ -102,7 +102,7 @@ module _ (here : Setting) (v : Value) (at : Ref) (name : Spelling) (given : List
       by (Some (Instance class fields)) h = refl
       by None h = cc
 
-  pub goes_instance : (class : ℕ) → kind_of there ≡ kind.Instance class → iterable_method here v name given s ≡ and_then (found_method here.program class name s) (generated_by here v given)
+  pub goes_instance : (class : ℕ) → kind_of there ≡ kind.Instance class → iterable_method here v name given s ≡ goes_over_on here v class name given s
   unfolding bind
   goes_instance class h = goes_on ∙ by there h ∙ ap (λ (o : Outcome Known). and_then o (generated_by here v given)) (method_is ∙ ap by_kind h)
     where
@@ -111,4 +111,20 @@ module _ (here : Setting) (v : Value) (at : Ref) (name : Spelling) (given : List
       by (Some (Instance class fields)) h = refl
       by None h = cc
 
-pub ruleset method_rules = (on_list, goes_list, on_instance, goes_instance)
+  pub on_nothing : kind_of there ≡ kind.Nothing → call_method here v name given s ≡ Stops (Faulted (record { kind = fault.Runtime; text = codes "wrong kind" })) s
+  unfolding bind stop
+  on_nothing h = call_on ∙ by there h ∙ ap (λ (o : Outcome Known). and_then o (λ known. call here known (v ∷ given))) (method_is ∙ ap by_kind h)
+    where
+      by : (o : Option Object) → kind_of o ≡ kind.Nothing → method_on here v at name given o s ≡ and_then (method_of here v name s) (λ known. call here known (v ∷ given))
+      by (Some (Listed items)) h = cc
+      by (Some (Instance class fields)) h = cc
+      by None h = refl
+
+  pub goes_nothing : kind_of there ≡ kind.Nothing → iterable_method here v name given s ≡ Stops (Faulted (record { kind = fault.Runtime; text = codes "wrong kind" })) s
+  unfolding bind stop
+  goes_nothing h = goes_on ∙ by there h ∙ ap (λ (o : Outcome Known). and_then (and_then o (λ known. call here known (v ∷ given))) (λ container. pure (Items container))) (method_is ∙ ap by_kind h)
+    where
+      by : (o : Option Object) → kind_of o ≡ kind.Nothing → iterable_on here v at name given o s ≡ and_then (and_then (method_of here v name s) (λ known. call here known (v ∷ given))) (λ container. pure (Items container))
+      by (Some (Listed items)) h = cc
+      by (Some (Instance class fields)) h = cc
+      by None h = refl
