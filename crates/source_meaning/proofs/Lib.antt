@@ -30,3 +30,4 @@ pub mod MethodCalls
 pub mod Assigns
 pub mod Rounds
 pub mod Constructed
+pub mod Comprehensions

@@ -37,3 +37,4 @@ pub mod Reaching
 pub mod Sights
 pub mod Stages
 pub mod Plain
+pub mod Forms
