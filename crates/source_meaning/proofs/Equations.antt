@@ -11,7 +11,7 @@ use Rattle.source_trees.specs.declared.statement.LoopNames.{LoopNames}
 use Rattle.source_trees.specs.declared.expression.Commas.{Commas}
 use Rattle.source_trees.specs.declared.expression.Comparison.{Comparison}
 use Rattle.source_trees.specs.declared.expression.Expr.{Expr, Expr-F, roll-Expr, ind-Expr}
-use Rattle.source_trees.specs.declared.expression.Expr.TheFolds.{para-Comparison, para-roll-Expr, para_out-Comparison, map-Expr}
+use Rattle.source_trees.specs.declared.expression.Expr.TheFolds.{para-Comparison, para-roll-Expr, para-roll-Comparison, map-Expr}
 use Rattle.std.specs.Prelude.{option_map}
 use Rattle.source_trees.specs.declared.expression.Expr.TheVariants as e
 use Rattle.source_meaning.specs.State.{Spelling, State}
@@ -50,7 +50,7 @@ module _ (here : Setting) where
 
   step_is : (c : Comparison) (scope : Scope) (v : Value) → step c scope v ≡ lists.compares here scope c v
   unfolding meant
-  step_is c scope v = ap (λ (m : Compares). m scope v) (para_out-Comparison Means Compares (spec.expr_step here) (spec.comparison_step here) c)
+  step_is c scope v = ap (λ (m : Compares). m scope v) (para-roll-Comparison Means Compares (spec.expr_step here) (spec.comparison_step here) (record { comparator = c.comparator; right = c.right }))
 
   chain_paired : (scope : Scope) (others : List Comparison) (v : Value) → spec.chain here scope (map (λ c. (c, step c)) others) v ≡ lists.chained here scope others v
   chain_paired scope [] v = refl
@@ -185,7 +185,8 @@ module _ (here : Setting) where
 
   pub expr_Comprehension : (n : Node) (item : Expr) (names : LoopNames) (goes : Expr) (kept : Option Expr) (scope : Scope) (s : State) → expr here scope (e.Comprehension n item names goes kept) s ≡ (iterable here scope goes >>= λ goes_over. lists.comprehended_of here scope names goes_over kept item) s
   unfolding meant
-  expr_Comprehension n item names goes kept scope s = ap (λ d. expr here scope d s) (sym (e.rolls-Comprehension n item names goes kept)) ∙ ap (λ (m : Means). (m scope).value s) (para-roll-Expr Means Compares (spec.expr_step here) (spec.comparison_step here) (Expr-F.Comprehension n item names goes kept)) ∙ ap (λ (k : Iterable → Run Value). (iterable here scope goes >>= k) s) (λ i goes_over. kept_paired scope names item goes_over kept i)
+  expr_Comprehension n item names goes None scope s = ap (λ x. expr here scope x s) (sym (e.rolls-Comprehension n item names goes None)) ∙ ap (λ (m : Means). (m scope).value s) (para-roll-Expr Means Compares (spec.expr_step here) (spec.comparison_step here) (Expr-F.Comprehension n item names goes None))
+  expr_Comprehension n item names goes (Some d) scope s = ap (λ x. expr here scope x s) (sym (e.rolls-Comprehension n item names goes (Some d))) ∙ ap (λ (m : Means). (m scope).value s) (para-roll-Expr Means Compares (spec.expr_step here) (spec.comparison_step here) (Expr-F.Comprehension n item names goes (Some d)))
 
   pub expr_Compare : (n : Node) (first : Expr) (others : List Comparison) (scope : Scope) (s : State) → expr here scope (e.Compare n first others) s ≡ (expr here scope first >>= lists.chained here scope others) s
   unfolding meant
@@ -197,7 +198,10 @@ module _ (here : Setting) where
 
   pub expr_Slice : (n : Node) (a : Expr) (from to : Option Expr) (scope : Scope) (s : State) → expr here scope (e.Slice n a from to) s ≡ (expr here scope a >>= λ v. lists.bound here scope from >>= λ start. lists.bound here scope to >>= λ stop. slice here.rules (out-Value v) start stop) s
   unfolding meant
-  expr_Slice n a from to scope s = ap (λ d. expr here scope d s) (sym (e.rolls-Slice n a from to)) ∙ ap (λ (m : Means). (m scope).value s) (para-roll-Expr Means Compares (spec.expr_step here) (spec.comparison_step here) (Expr-F.Slice n a from to)) ∙ (λ i. (expr here scope a >>= λ v. bound_paired scope from i >>= λ start. bound_paired scope to i >>= λ stop. slice here.rules (out-Value v) start stop) s)
+  expr_Slice n a None None scope s = ap (λ x. expr here scope x s) (sym (e.rolls-Slice n a None None)) ∙ ap (λ (m : Means). (m scope).value s) (para-roll-Expr Means Compares (spec.expr_step here) (spec.comparison_step here) (Expr-F.Slice n a None None))
+  expr_Slice n a None (Some f) scope s = ap (λ x. expr here scope x s) (sym (e.rolls-Slice n a None (Some f))) ∙ ap (λ (m : Means). (m scope).value s) (para-roll-Expr Means Compares (spec.expr_step here) (spec.comparison_step here) (Expr-F.Slice n a None (Some f)))
+  expr_Slice n a (Some d) None scope s = ap (λ x. expr here scope x s) (sym (e.rolls-Slice n a (Some d) None)) ∙ ap (λ (m : Means). (m scope).value s) (para-roll-Expr Means Compares (spec.expr_step here) (spec.comparison_step here) (Expr-F.Slice n a (Some d) None))
+  expr_Slice n a (Some d) (Some f) scope s = ap (λ x. expr here scope x s) (sym (e.rolls-Slice n a (Some d) (Some f))) ∙ ap (λ (m : Means). (m scope).value s) (para-roll-Expr Means Compares (spec.expr_step here) (spec.comparison_step here) (Expr-F.Slice n a (Some d) (Some f)))
 
   pub expr_Field : (n : Node) (a : Expr) (name : Spelling) (scope : Scope) (s : State) → expr here scope (e.Field n a name) s ≡ (expr here scope a >>= λ v. field here.program v name) s
   unfolding meant
@@ -230,7 +234,8 @@ module _ (here : Setting) where
   other scope s (Expr-F.Bracketed n a) h = same scope s (Expr-F.Bracketed n a) refl
   other scope s (Expr-F.Tuple n c parts) h = same scope s (Expr-F.Tuple n c parts) refl
   other scope s (Expr-F.List n parts) h = same scope s (Expr-F.List n parts) refl
-  other scope s (Expr-F.Comprehension n item names goes kept) h = same scope s (Expr-F.Comprehension n item names goes kept) refl
+  other scope s (Expr-F.Comprehension n item names goes None) h = same scope s (Expr-F.Comprehension n item names goes None) refl
+  other scope s (Expr-F.Comprehension n item names goes (Some d)) h = same scope s (Expr-F.Comprehension n item names goes (Some d)) refl
   other scope s (Expr-F.Conditional n a b c) h = same scope s (Expr-F.Conditional n a b c) refl
   other scope s (Expr-F.Or n parts) h = same scope s (Expr-F.Or n parts) refl
   other scope s (Expr-F.And n parts) h = same scope s (Expr-F.And n parts) refl

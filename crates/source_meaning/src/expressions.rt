@@ -8,6 +8,7 @@ ghost use Rattle.source_meaning.specs.Lists as lists;
 ghost use Rattle.source_meaning.specs.Lists.{some_true, all_true, bound, chained, compares, called, standard, standard_goes, called_iterable, comprehended_of, comprehended_in};
 ghost use Rattle.source_meaning.specs.Forms.{IsConditional, IsBinary, IsIndex, IsCompare, IsMethodCall, IsSlice, IsNoCall, Comprehends, IsComprehension};
 ghost use Rattle.source_meaning.specs.Callees.{builtin_of};
+ghost use Rattle.source_meaning.specs.Loops.{Numbers};
 ghost use Rattle.source_meaning.specs.Meaning.{condition_of, turn_of};
 ghost use Rattle.source_meaning.specs.Program.{ToList};
 ghost use Rattle.source_meaning.specs.Scopes.{scope_of};
@@ -45,6 +46,12 @@ fn names_now(alloc: Global, state: &State) -> Result<Names, Memory>
     Ok(own)
 }
 
+fn number_value(state: &State, number: &i64) -> Result<Value, Stop>
+    ensures { Tells (pure (value.Int number.now) (seen state.now)) result state.now }
+{
+    Ok(Value::Int(*number))
+}
+
 fn text_value(alloc: Global, state: &State, text: &Text) -> Result<Value, Stop>
     ensures { Tells (pure (value.Text text.now) (seen state.now)) result state.now }
 {
@@ -61,7 +68,7 @@ impl<'m, F: Fn(Global, &Prepared<'_>, u64, u32, &mut State, &[Consumer<'_>], Tas
     {
         match e {
             Expr::Name(_, name) => read_name(self.alloc, state, scope, name),
-            Expr::Number(_, number) => Ok(Value::Int(*number)),
+            Expr::Number(_, number) => number_value(state, number),
             Expr::Text(_, text) => text_value(self.alloc, state, text),
             Expr::True(_) => Ok(Value::Bool(true)),
             Expr::False(_) => Ok(Value::Bool(false)),
@@ -450,7 +457,8 @@ impl<'m, F: Fn(Global, &Prepared<'_>, u64, u32, &mut State, &[Consumer<'_>], Tas
         match which {
             Builtin::Range => {
                 let given = self.exprs(state, scope, parts)?;
-                range_of(self.alloc, given)
+                let goes_over = range_of(self.alloc, given)?;
+                Ok(goes_over)
             }
             other => {
                 let v = self.standard(state, scope, other, parts)?;
@@ -499,13 +507,22 @@ impl<'m, F: Fn(Global, &Prepared<'_>, u64, u32, &mut State, &[Consumer<'_>], Tas
         match goes_over {
             Iterable::Generated(called, given) => self.generate(state, &[], Consumer::Comprehension(*inner, names, condition, item, list), called, given),
             Iterable::Items(container) => self.gather_turns(state, inner, e, Cursor::Item(container, 0), names, item, condition, list),
-            Iterable::Numbers(start, stop, step) => match begun(self.alloc, state, &start, &stop, &step) {
-                Ok(cursor) => {
-                    is_within(&cursor);
-                    self.gather_turns(state, inner, e, cursor, names, item, condition, list)
-                }
-                Err(why) => Err(why),
-            },
+            Iterable::Numbers(start, stop, step) => self.gather_numbers(state, inner, e, &start, &stop, &step, names, item, condition, list),
+        }
+    }
+
+    #[cycle(expression)]
+    fn gather_numbers(&self, state: &mut State, inner: &Scope<'_>, e: &Expr, start: &Value, stop: &Value, step: &Value, names: &LoopNames, item: &Boxed<Expr>, condition: &Option<Boxed<Expr>>, list: &Value) -> Result<Flow, Stop>
+        requires nests { Nests self.now.program.now self.now.limit self.now.depth (F.pre self.now.low) (F.post self.now.low) }
+        requires form { IsComprehension e.now names.now condition.now item.now }
+        ensures { TellsFlow (looped (here self.now.program.now self.now.limit self.now.depth) [] (Numbers start.now stop.now step.now) (Comprehension (scope_of inner.now) names.now condition.now item.now list.now) (seen state.old)) result state.new }
+    {
+        match begun(self.alloc, state, start, stop, step) {
+            Ok(cursor) => {
+                is_within(&cursor);
+                self.gather_turns(state, inner, e, cursor, names, item, condition, list)
+            }
+            Err(why) => Err(why),
         }
     }
 

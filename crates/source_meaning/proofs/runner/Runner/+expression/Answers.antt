@@ -6,6 +6,8 @@ use Rattle.source_meaning.specs.State.{Spelling, Names, State, Flow}
 use Rattle.source_meaning.specs.Lists as lists
 use Rattle.source_meaning.specs.Loops as loops
 use Rattle.source_meaning.specs.Outcome.{Outcome, Gives, and_then, bind, pure}
+use Rattle.codon_base.specs.declared.object.Object.TheVariants.{List as Listed}
+use Rattle.source_meaning.specs.Objects.{allocate}
 use Rattle.source_meaning.specs.Frames.{with_names}
 use Rattle.source_meaning.specs.Iterations.{in_place}
 use Rattle.source_meaning.specs.Cursors.{next_by}
@@ -98,15 +100,14 @@ gather-returns-in-Items g t c =
     (sym (ap (λ (i : Iterable). looped (here c.args.self.now.program.now c.args.self.now.limit c.args.self.now.depth) [] (iterable_of i) (Comprehension (scope_of c.args.inner.now) c.args.names.now c.args.condition.now c.args.item.now c.args.list.now) (seen c.args.state.now)) c.in-Items.is ∙ over_items (here c.args.self.now.program.now c.args.self.now.limit c.args.self.now.depth) [] (Comprehension (scope_of c.args.inner.now) c.args.names.now c.args.condition.now c.args.item.now c.args.list.now) c.in-Items.container (seen c.args.state.now)))
     c.gather_turns.ensures
 
-pub gather-returns-in-Ok-in-Numbers : goal.gather-returns-in-Ok-in-Numbers
-gather-returns-in-Ok-in-Numbers g t c =
-    subst (λ (o : Outcome Flow). TellsFlow o c.gather_turns-in-Ok.result c.gather_turns-in-Ok.new.state)
-    (sym (ap (λ (i : Iterable). looped (here c.args.self.now.program.now c.args.self.now.limit c.args.self.now.depth) [] (iterable_of i) (Comprehension (scope_of c.args.inner.now) c.args.names.now c.args.condition.now c.args.item.now c.args.list.now) (seen c.args.state.now)) c.in-Numbers.is ∙ over_numbers (here c.args.self.now.program.now c.args.self.now.limit c.args.self.now.depth) [] (Comprehension (scope_of c.args.inner.now) c.args.names.now c.args.condition.now c.args.item.now c.args.list.now) c.in-Numbers.start c.in-Numbers.stop c.in-Numbers.step (seen c.args.state.now) (seen c.args.state.now) c.in-Ok.cursor c.in-Ok.ensures c.is_within.ensures))
-    c.gather_turns-in-Ok.ensures
+pub gather_numbers-returns-in-Ok : goal.gather_numbers-returns-in-Ok
+gather_numbers-returns-in-Ok g t c =
+    subst (λ (o : Outcome Flow). TellsFlow o c.gather_turns.result c.gather_turns.new.state)
+    (sym (over_numbers (here c.args.self.now.program.now c.args.self.now.limit c.args.self.now.depth) [] (Comprehension (scope_of c.args.inner.now) c.args.names.now c.args.condition.now c.args.item.now c.args.list.now) c.args.start.now c.args.stop.now c.args.step.now (seen c.args.state.now) (seen c.args.state.now) c.in-Ok.cursor c.in-Ok.ensures c.is_within.ensures))
+    c.gather_turns.ensures
 
-pub gather-returns-in-Err : goal.gather-returns-in-Err
-gather-returns-in-Err g t c =
-    λ n. ap (λ (i : Iterable). looped (here c.args.self.now.program.now c.args.self.now.limit c.args.self.now.depth) [] (iterable_of i) (Comprehension (scope_of c.args.inner.now) c.args.names.now c.args.condition.now c.args.item.now c.args.list.now) (seen c.args.state.now)) c.in-Numbers.is ∙ over_none (here c.args.self.now.program.now c.args.self.now.limit c.args.self.now.depth) [] (Comprehension (scope_of c.args.inner.now) c.args.names.now c.args.condition.now c.args.item.now c.args.list.now) c.in-Numbers.start c.in-Numbers.stop c.in-Numbers.step (seen c.args.state.now) (seen c.args.state.now) (why_of c.in-Err.why) (c.in-Err.ensures n)
+pub gather_numbers-returns-in-Err : goal.gather_numbers-returns-in-Err
+gather_numbers-returns-in-Err g t c = λ n. over_none (here c.args.self.now.program.now c.args.self.now.limit c.args.self.now.depth) [] (Comprehension (scope_of c.args.inner.now) c.args.names.now c.args.condition.now c.args.item.now c.args.list.now) c.args.start.now c.args.stop.now c.args.step.now (seen c.args.state.now) (seen c.args.state.now) (why_of c.in-Err.why) (c.in-Err.ensures n)
 
 pub expr-returns-in-Name : goal.expr-returns-in-Name
 expr-returns-in-Name g t c = subst (λ (o : Outcome Value). Tells o c.read_name.result c.read_name.new.state) (sym (ap (λ d. spec.expr (here c.args.self.now.program.now c.args.self.now.limit c.args.self.now.depth) (scope_of c.args.scope.now) d (seen c.args.state.now)) c.in-Name.is ∙ expr_Name (here c.args.self.now.program.now c.args.self.now.limit c.args.self.now.depth) _ _ (scope_of c.args.scope.now) (seen c.args.state.now))) c.read_name.ensures
@@ -154,8 +155,7 @@ pub expr-returns-in-Slice : goal.expr-returns-in-Slice
 expr-returns-in-Slice g t c = subst (λ (o : Outcome Value). Tells o c.sliced.result c.sliced.new.state) (sym (ap (λ d. spec.expr (here c.args.self.now.program.now c.args.self.now.limit c.args.self.now.depth) (scope_of c.args.scope.now) d (seen c.args.state.now)) c.in-Slice.is ∙ expr_Slice (here c.args.self.now.program.now c.args.self.now.limit c.args.self.now.depth) _ _ _ _ (scope_of c.args.scope.now) (seen c.args.state.now))) c.sliced.ensures
 
 pub expr-returns-in-Number : goal.expr-returns-in-Number
-unfolding pure
-expr-returns-in-Number g t c = ap (λ d. spec.expr (here c.args.self.now.program.now c.args.self.now.limit c.args.self.now.depth) (scope_of c.args.scope.now) d (seen c.args.state.now)) c.in-Number.is ∙ expr_Number (here c.args.self.now.program.now c.args.self.now.limit c.args.self.now.depth) _ _ (scope_of c.args.scope.now) (seen c.args.state.now)
+expr-returns-in-Number g t c = subst (λ (o : Outcome Value). Tells o c.number_value.result c.args.state.now) (sym (ap (λ d. spec.expr (here c.args.self.now.program.now c.args.self.now.limit c.args.self.now.depth) (scope_of c.args.scope.now) d (seen c.args.state.now)) c.in-Number.is ∙ expr_Number (here c.args.self.now.program.now c.args.self.now.limit c.args.self.now.depth) _ _ (scope_of c.args.scope.now) (seen c.args.state.now))) c.number_value.ensures
 
 pub expr-returns-in-True : goal.expr-returns-in-True
 unfolding pure
@@ -199,12 +199,14 @@ comprehension-returns g t c =
 
 pub comprehension_in-returns-in-Ok : goal.comprehension_in-returns-in-Ok
 comprehension_in-returns-in-Ok g t c =
-    comprehension_is (here c.args.self.now.program.now c.args.self.now.limit c.args.self.now.depth) (scope_of c.args.inner.now) c.args.names.now (iterable_of c.args.goes_over) c.args.condition.now c.args.item.now (seen c.args.state.now) (seen c.allocate.new.state) (seen c.gather.new.state) c.in_ok-list.list (flow_of c.in-Ok.field-0) c.in_ok-list.ensures c.in-Ok.ensures
+    let made : allocate (Listed []) (seen c.args.state.now) ≡ Gives c.in_ok-list.list (seen c.allocate.new.state) = subst (λ (l : List Value). allocate (Listed l) (seen c.args.state.now) ≡ Gives c.in_ok-list.list (seen c.allocate.new.state)) c.new.ensures c.in_ok-list.ensures in
+    comprehension_is (here c.args.self.now.program.now c.args.self.now.limit c.args.self.now.depth) (scope_of c.args.inner.now) c.args.names.now (iterable_of c.args.goes_over) c.args.condition.now c.args.item.now (seen c.args.state.now) (seen c.allocate.new.state) (seen c.gather.new.state) c.in_ok-list.list (flow_of c.in-Ok.field-0) made c.in-Ok.ensures
     ∙ ap (λ (u : State). Gives c.in_ok-list.list u) (ap (λ (ns : Names). with_names ns (seen c.gather.new.state)) (sym c.in_ok-own.ensures) ∙ sym c.swap_names.ensures.new)
 
 pub comprehension_in-returns-in-Err : goal.comprehension_in-returns-in-Err
 comprehension_in-returns-in-Err g t c =
-    λ n. comprehension_stops (here c.args.self.now.program.now c.args.self.now.limit c.args.self.now.depth) (scope_of c.args.inner.now) c.args.names.now (iterable_of c.args.goes_over) c.args.condition.now c.args.item.now (seen c.args.state.now) (seen c.allocate.new.state) (seen c.gather.new.state) c.in_ok-list.list (why_of c.in-Err.why) c.in_ok-list.ensures (c.in-Err.ensures n)
+    let made : allocate (Listed []) (seen c.args.state.now) ≡ Gives c.in_ok-list.list (seen c.allocate.new.state) = subst (λ (l : List Value). allocate (Listed l) (seen c.args.state.now) ≡ Gives c.in_ok-list.list (seen c.allocate.new.state)) c.new.ensures c.in_ok-list.ensures in
+    λ n. comprehension_stops (here c.args.self.now.program.now c.args.self.now.limit c.args.self.now.depth) (scope_of c.args.inner.now) c.args.names.now (iterable_of c.args.goes_over) c.args.condition.now c.args.item.now (seen c.args.state.now) (seen c.allocate.new.state) (seen c.gather.new.state) c.in_ok-list.list (why_of c.in-Err.why) made (c.in-Err.ensures n)
 
 pub chain-chain-preserved : goal.chain-chain-preserved
 chain-chain-preserved g t c =
