@@ -10,18 +10,19 @@ use Rattle.source_trees.specs.declared.operator.BinaryOp.{BinaryOp}
 use Rattle.source_trees.specs.declared.statement.LoopNames.{LoopNames}
 use Rattle.source_trees.specs.declared.expression.Commas.{Commas}
 use Rattle.source_trees.specs.declared.expression.Comparison.{Comparison}
-use Rattle.source_trees.specs.declared.expression.Expr.{Expr, Expr-F}
-use Rattle.source_trees.specs.declared.expression.Expr.TheFolds.{para-Comparison, para-roll-Expr, para_out-Comparison}
+use Rattle.source_trees.specs.declared.expression.Expr.{Expr, Expr-F, roll-Expr, ind-Expr}
+use Rattle.source_trees.specs.declared.expression.Expr.TheFolds.{para-Comparison, para-roll-Expr, para-roll-Comparison, map-Expr}
 use Rattle.std.specs.Prelude.{option_map}
 use Rattle.source_trees.specs.declared.expression.Expr.TheVariants as e
 use Rattle.source_meaning.specs.State.{Spelling, State}
-use Rattle.source_meaning.specs.Outcome.{Run, ◌>>=◌, pure, bind}
+use Rattle.source_meaning.specs.Outcome.{Run, Gives, and_then, ◌>>=◌, pure, bind}
 use Rattle.source_meaning.specs.Bodies.{yields, loop_names}
 use Rattle.source_meaning.specs.Objects.{operate, allocate, item_at, slice, field}
 use Rattle.source_meaning.specs.Variables.{read_name}
 use Rattle.source_meaning.specs.Program.{Scope, Known, Builtin, Length, Least, Greatest, ToText, ToInt, ToBool, Code, Character, ToList, Range, Callee, Defined, Constructor, Standard, Variable, Unknown, callee, with_locals}
 use Rattle.source_meaning.specs.Calls.{call, construct}
-use Rattle.source_meaning.specs.Loops.{Iterable, Generated}
+use Rattle.source_meaning.specs.Loops.{Iterable, Items, Generated}
+use Rattle.source_meaning.specs.Forms.{IsNoCall}
 use Rattle.source_meaning.specs.Task.{Setting}
 use Rattle.source_meaning.specs.Operations.{binary, unary_made, builtin}
 use Rattle.source_meaning.specs.Expressions as spec
@@ -49,7 +50,7 @@ module _ (here : Setting) where
 
   step_is : (c : Comparison) (scope : Scope) (v : Value) → step c scope v ≡ lists.compares here scope c v
   unfolding meant
-  step_is c scope v = ap (λ (m : Compares). m scope v) (para_out-Comparison Means Compares (spec.expr_step here) (spec.comparison_step here) c)
+  step_is c scope v = ap (λ (m : Compares). m scope v) (para-roll-Comparison Means Compares (spec.expr_step here) (spec.comparison_step here) (record { comparator = c.comparator; right = c.right }))
 
   chain_paired : (scope : Scope) (others : List Comparison) (v : Value) → spec.chain here scope (map (λ c. (c, step c)) others) v ≡ lists.chained here scope others v
   chain_paired scope [] v = refl
@@ -184,7 +185,8 @@ module _ (here : Setting) where
 
   pub expr_Comprehension : (n : Node) (item : Expr) (names : LoopNames) (goes : Expr) (kept : Option Expr) (scope : Scope) (s : State) → expr here scope (e.Comprehension n item names goes kept) s ≡ (iterable here scope goes >>= λ goes_over. lists.comprehended_of here scope names goes_over kept item) s
   unfolding meant
-  expr_Comprehension n item names goes kept scope s = ap (λ d. expr here scope d s) (sym (e.rolls-Comprehension n item names goes kept)) ∙ ap (λ (m : Means). (m scope).value s) (para-roll-Expr Means Compares (spec.expr_step here) (spec.comparison_step here) (Expr-F.Comprehension n item names goes kept)) ∙ ap (λ (k : Iterable → Run Value). (iterable here scope goes >>= k) s) (λ i goes_over. kept_paired scope names item goes_over kept i)
+  expr_Comprehension n item names goes None scope s = ap (λ x. expr here scope x s) (sym (e.rolls-Comprehension n item names goes None)) ∙ ap (λ (m : Means). (m scope).value s) (para-roll-Expr Means Compares (spec.expr_step here) (spec.comparison_step here) (Expr-F.Comprehension n item names goes None))
+  expr_Comprehension n item names goes (Some d) scope s = ap (λ x. expr here scope x s) (sym (e.rolls-Comprehension n item names goes (Some d))) ∙ ap (λ (m : Means). (m scope).value s) (para-roll-Expr Means Compares (spec.expr_step here) (spec.comparison_step here) (Expr-F.Comprehension n item names goes (Some d)))
 
   pub expr_Compare : (n : Node) (first : Expr) (others : List Comparison) (scope : Scope) (s : State) → expr here scope (e.Compare n first others) s ≡ (expr here scope first >>= lists.chained here scope others) s
   unfolding meant
@@ -196,7 +198,10 @@ module _ (here : Setting) where
 
   pub expr_Slice : (n : Node) (a : Expr) (from to : Option Expr) (scope : Scope) (s : State) → expr here scope (e.Slice n a from to) s ≡ (expr here scope a >>= λ v. lists.bound here scope from >>= λ start. lists.bound here scope to >>= λ stop. slice here.rules (out-Value v) start stop) s
   unfolding meant
-  expr_Slice n a from to scope s = ap (λ d. expr here scope d s) (sym (e.rolls-Slice n a from to)) ∙ ap (λ (m : Means). (m scope).value s) (para-roll-Expr Means Compares (spec.expr_step here) (spec.comparison_step here) (Expr-F.Slice n a from to)) ∙ (λ i. (expr here scope a >>= λ v. bound_paired scope from i >>= λ start. bound_paired scope to i >>= λ stop. slice here.rules (out-Value v) start stop) s)
+  expr_Slice n a None None scope s = ap (λ x. expr here scope x s) (sym (e.rolls-Slice n a None None)) ∙ ap (λ (m : Means). (m scope).value s) (para-roll-Expr Means Compares (spec.expr_step here) (spec.comparison_step here) (Expr-F.Slice n a None None))
+  expr_Slice n a None (Some f) scope s = ap (λ x. expr here scope x s) (sym (e.rolls-Slice n a None (Some f))) ∙ ap (λ (m : Means). (m scope).value s) (para-roll-Expr Means Compares (spec.expr_step here) (spec.comparison_step here) (Expr-F.Slice n a None (Some f)))
+  expr_Slice n a (Some d) None scope s = ap (λ x. expr here scope x s) (sym (e.rolls-Slice n a (Some d) None)) ∙ ap (λ (m : Means). (m scope).value s) (para-roll-Expr Means Compares (spec.expr_step here) (spec.comparison_step here) (Expr-F.Slice n a (Some d) None))
+  expr_Slice n a (Some d) (Some f) scope s = ap (λ x. expr here scope x s) (sym (e.rolls-Slice n a (Some d) (Some f))) ∙ ap (λ (m : Means). (m scope).value s) (para-roll-Expr Means Compares (spec.expr_step here) (spec.comparison_step here) (Expr-F.Slice n a (Some d) (Some f)))
 
   pub expr_Field : (n : Node) (a : Expr) (name : Spelling) (scope : Scope) (s : State) → expr here scope (e.Field n a name) s ≡ (expr here scope a >>= λ v. field here.program v name) s
   unfolding meant
@@ -209,5 +214,46 @@ module _ (here : Setting) where
   pub iterable_MethodCall : (n m : Node) (a : Expr) (name : Spelling) (parts : List Expr) (scope : Scope) (s : State) → iterable here scope (e.MethodCall n m a name parts) s ≡ (expr here scope a >>= λ v. exprs here scope parts >>= spec.iterable_method here v name) s
   unfolding meant
   iterable_MethodCall n m a name parts scope s = ap (λ d. iterable here scope d s) (sym (e.rolls-MethodCall n m a name parts)) ∙ ap (λ (k : Means). (k scope).iterable s) (para-roll-Expr Means Compares (spec.expr_step here) (spec.comparison_step here) (Expr-F.MethodCall n m a name parts)) ∙ ap (λ (r : Run (List Value)). (expr here scope a >>= λ v. r >>= spec.iterable_method here v name) s) (values_paired scope parts)
+
+  abbrev mapped : Expr-F Expr Comparison → Expr-F (Expr × Means) (Comparison × Compares)
+  mapped = map-Expr Expr Comparison (Expr × Means) (Comparison × Compares) (λ x. (x, meant here x)) (λ x. (x, para-Comparison Means Compares (spec.expr_step here) (spec.comparison_step here) x))
+
+  same : (scope : Scope) (s : State) (x : Expr-F Expr Comparison) → spec.iterable_of here scope (mapped x) s ≡ spec.items_of (spec.value_of here scope (mapped x)) s → iterable here scope (roll-Expr x) s ≡ spec.items_of (expr here scope (roll-Expr x)) s
+  unfolding meant bind
+  same scope s x h =
+      let rolled : meant here (roll-Expr x) ≡ spec.expr_step here (mapped x) = para-roll-Expr Means Compares (spec.expr_step here) (spec.comparison_step here) x in
+      ap (λ (m : Means). (m scope).iterable s) rolled ∙ h ∙ sym (ap (λ (m : Means). spec.items_of (m scope).value s) rolled)
+
+  other : (scope : Scope) (s : State) (x : Expr-F Expr Comparison) → IsNoCall (roll-Expr x) → iterable here scope (roll-Expr x) s ≡ spec.items_of (expr here scope (roll-Expr x)) s
+  other scope s (Expr-F.Name n name) h = same scope s (Expr-F.Name n name) refl
+  other scope s (Expr-F.Number n z) h = same scope s (Expr-F.Number n z) refl
+  other scope s (Expr-F.Text n text) h = same scope s (Expr-F.Text n text) refl
+  other scope s (Expr-F.True n) h = same scope s (Expr-F.True n) refl
+  other scope s (Expr-F.False n) h = same scope s (Expr-F.False n) refl
+  other scope s (Expr-F.None n) h = same scope s (Expr-F.None n) refl
+  other scope s (Expr-F.Bracketed n a) h = same scope s (Expr-F.Bracketed n a) refl
+  other scope s (Expr-F.Tuple n c parts) h = same scope s (Expr-F.Tuple n c parts) refl
+  other scope s (Expr-F.List n parts) h = same scope s (Expr-F.List n parts) refl
+  other scope s (Expr-F.Comprehension n item names goes None) h = same scope s (Expr-F.Comprehension n item names goes None) refl
+  other scope s (Expr-F.Comprehension n item names goes (Some d)) h = same scope s (Expr-F.Comprehension n item names goes (Some d)) refl
+  other scope s (Expr-F.Conditional n a b c) h = same scope s (Expr-F.Conditional n a b c) refl
+  other scope s (Expr-F.Or n parts) h = same scope s (Expr-F.Or n parts) refl
+  other scope s (Expr-F.And n parts) h = same scope s (Expr-F.And n parts) refl
+  other scope s (Expr-F.Not n a) h = same scope s (Expr-F.Not n a) refl
+  other scope s (Expr-F.Compare n a others) h = same scope s (Expr-F.Compare n a others) refl
+  other scope s (Expr-F.Unary n by a) h = same scope s (Expr-F.Unary n by a) refl
+  other scope s (Expr-F.Binary n by a b) h = same scope s (Expr-F.Binary n by a b) refl
+  other scope s (Expr-F.Index n a b) h = same scope s (Expr-F.Index n a b) refl
+  other scope s (Expr-F.Slice n a from to) h = same scope s (Expr-F.Slice n a from to) refl
+  other scope s (Expr-F.Field n a name) h = same scope s (Expr-F.Field n a name) refl
+  other scope s (Expr-F.Call n name parts) h = absurd (h.0 n name parts (e.rolls-Call n name parts))
+  other scope s (Expr-F.MethodCall n m a name parts) h = absurd (h.1 n m a name parts (e.rolls-MethodCall n m a name parts))
+
+  abbrev OtherIs : Scope → State → Expr → Type 0
+  OtherIs scope s whole = IsNoCall whole → iterable here scope whole s ≡ spec.items_of (expr here scope whole) s
+
+  pub iterable_other : (scope : Scope) (s : State) (whole : Expr) → IsNoCall whole → iterable here scope whole s ≡ and_then (expr here scope whole s) (λ container s. Gives (Items container) s)
+  unfolding bind pure
+  iterable_other scope s = ind-Expr (OtherIs scope s) (λ c. Unit {0}) (λ x y eq. other scope s x) (λ x y eq. tt)
 
 pub ruleset expr_rules = (expr_Name, expr_Number, expr_Text, expr_True, expr_False, expr_None, expr_Bracketed, expr_Tuple, expr_List, expr_Conditional, expr_Or, expr_And, expr_Not, expr_Unary, expr_Binary, expr_MethodCall, expr_Index, expr_Comprehension, expr_Compare, expr_Call, expr_Slice, expr_Field, iterable_Call, iterable_MethodCall)

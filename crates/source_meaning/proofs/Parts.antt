@@ -1,11 +1,11 @@
 -- Parts of expressions in order: what a loop over them computes from a place on.
-use Rattle.std.proofs.Common.{◌≡◌, ℕ, ◌+◌, ◌<◌, ◌≤◌, true, false, if◌then◌else◌, List, [], ◌∷◌, length, get_or, drop, refl, sym, ap, ◌∙◌}
+use Rattle.std.proofs.Common.{◌≡◌, ℕ, ◌+◌, ◌<◌, ◌≤◌, true, false, if◌then◌else◌, List, [], ◌∷◌, Option, Some, None, length, get_or, drop, refl, sym, ap, ◌∙◌}
 use Rattle.codon_base.specs.declared.value.Value.{Value}
 use Rattle.codon_base.specs.declared.value.Value.TheVariants as value
 use Rattle.source_trees.specs.declared.expression.Expr.{Expr}
 use Rattle.source_trees.specs.declared.expression.Comparison.{Comparison}
-use Rattle.source_meaning.specs.State.{State}
-use Rattle.source_meaning.specs.Outcome.{Outcome, Gives, Run, and_then, ◌>>=◌, bind, pure}
+use Rattle.source_meaning.specs.State.{State, Stop}
+use Rattle.source_meaning.specs.Outcome.{Outcome, Gives, Stops, Run, and_then, ◌>>=◌, bind, pure}
 use Rattle.source_meaning.specs.Program.{Scope}
 use Rattle.source_meaning.specs.Task.{Setting}
 use Rattle.source_meaning.specs.Expressions.{expr, exprs, condition, if_holds}
@@ -47,3 +47,21 @@ module _ (here : Setting) (scope : Scope) where
   pub chain_end : (xs : List Comparison) (i : ℕ) (v : Value) (s : State) → length xs ≤ i → chained here scope (drop i xs) v s ≡ Gives (value.Bool true) s
   unfolding pure
   chain_end xs i v s h = ap (λ (l : List Comparison). chained here scope l v s) (drop_end xs i h)
+
+  abbrev goes : List Comparison → Outcome (Option Value) → Outcome Value
+  goes rest o = and_then o (λ o. if_holds here o (chained here scope rest))
+
+  pub chain_more : (xs : List Comparison) (i : ℕ) (x : Comparison) (v w : Value) (s t : State) → i < length xs → x ≡ get_or xs i x → compares here scope x v s ≡ Gives (Some w) t
+      → chained here scope (drop i xs) v s ≡ chained here scope (drop (i + 1) xs) w t
+  chain_more xs i x v w s t h e f = chain_next xs i x v s h e ∙ ap (goes (drop (i + 1) xs)) f
+
+  pub chain_fails : (xs : List Comparison) (i : ℕ) (x : Comparison) (v : Value) (s t : State) → i < length xs → x ≡ get_or xs i x → compares here scope x v s ≡ Gives None t
+      → chained here scope (drop i xs) v s ≡ Gives (value.Bool false) t
+  unfolding pure
+  chain_fails xs i x v s t h e f = chain_next xs i x v s h e ∙ ap (goes (drop (i + 1) xs)) f
+
+  pub chain_stops : (xs : List Comparison) (i : ℕ) (x : Comparison) (v : Value) (s t : State) (why : Stop) → i < length xs → x ≡ get_or xs i x → compares here scope x v s ≡ Stops why t
+      → chained here scope (drop i xs) v s ≡ Stops why t
+  chain_stops xs i x v s t why h e f = chain_next xs i x v s h e ∙ ap (goes (drop (i + 1) xs)) f
+
+pub ruleset chain_rules = (chain_more, chain_fails, chain_stops, chain_end)

@@ -18,7 +18,7 @@ use Rattle.source_meaning.specs.Operations.{binary, unary_made, compared_made, b
 use Rattle.source_meaning.specs.Program.{Builtin, ToList, Range, Callee, Defined, Constructor, Standard, Variable, Unknown, callee, with_locals}
 use Rattle.source_meaning.specs.Calls.{call, construct}
 use Rattle.source_meaning.specs.Loops.{Iterable, Generated}
-use Rattle.source_meaning.specs.Expressions.{expr, exprs, condition, iterable, call_method, if_holds, gathered, comprehended, not_set, range_of, items_of}
+use Rattle.source_meaning.specs.Expressions.{expr, exprs, condition, iterable, call_method, iterable_method, if_holds, gathered, comprehended, not_set, range_of, items_of}
 use Rattle.source_meaning.specs.Meaning.{condition_of}
 use Rattle.source_meaning.specs.Objects.{if_set}
 use Rattle.source_meaning.specs.State.{Spelling}
@@ -71,6 +71,9 @@ module _ (here : Setting) (scope : Scope) where
   abbrev pub method_called : Expr → Spelling → List Expr → Run Value
   method_called object name parts = expr here scope object >>= λ v. exprs here scope parts >>= call_method here v name
 
+  abbrev pub method_iterable : Expr → Spelling → List Expr → Run Iterable
+  method_iterable object name parts = expr here scope object >>= λ v. exprs here scope parts >>= iterable_method here v name
+
   abbrev pub sliced : Expr → Option Expr → Option Expr → Run Value
   sliced part from to = expr here scope part >>= λ v. bound from >>= λ start. bound to >>= λ stop. slice here.rules (out-Value v) start stop
 
@@ -115,6 +118,10 @@ module _ (here : Setting) (scope : Scope) where
   called_iterable name parts = called_goes_by (callee here.program scope name) name parts
 
   -- ---- comprehensions
+
+  -- in the text in which its names are its own
+  abbrev pub comprehended_in : LoopNames → Iterable → Option Expr → Expr → Run Value
+  comprehended_in names goes_over kept item = comprehended here scope names goes_over kept (condition_of here scope kept) item (expr here scope item)
 
   abbrev pub comprehended_of : LoopNames → Iterable → Option Expr → Expr → Run Value
   comprehended_of names goes_over kept item =

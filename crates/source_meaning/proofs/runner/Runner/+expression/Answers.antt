@@ -1,11 +1,29 @@
-use Rattle.std.proofs.Common.{◌≡◌, ◌+◌, ◌++◌, ◌∷◌, [], List, drop, rules, arith, ap, sym, ◌∙◌}
+use Rattle.std.proofs.Common.{◌≡◌, ◌+◌, ◌++◌, ◌∷◌, [], List, drop, rules, arith, ap, sym, ◌∙◌, subst}
 use Rattle.std.proofs.lemmas.Grind.{common_steps}
 use Rattle.source_meaning.specs.Expressions as spec
-use Rattle.source_meaning.specs.Outcome.{bind, pure}
-use Rattle.source_meaning.specs.Seen.{seen}
+use Rattle.std.specs.Borrow.{Bor}
+use Rattle.source_meaning.specs.State.{Spelling, Names, State, Flow}
+use Rattle.source_meaning.specs.Lists as lists
+use Rattle.source_meaning.specs.Loops as loops
+use Rattle.source_meaning.specs.Outcome.{Outcome, Gives, and_then, bind, pure}
+use Rattle.codon_base.specs.declared.object.Object.TheVariants.{List as Listed}
+use Rattle.source_meaning.specs.Objects.{allocate}
+use Rattle.source_meaning.specs.Frames.{with_names}
+use Rattle.source_meaning.specs.Iterations.{in_place}
+use Rattle.source_meaning.specs.Cursors.{next_by}
+use Rattle.source_meaning.specs.Meaning.{turn_of}
+use Rattle.source_meaning.specs.Steps.{iterable_of, looped}
+use Rattle.source_meaning.specs.Lists.{comprehended_in}
+use Rattle.source_meaning.specs.Task.{Comprehension}
+use Rattle.source_meaning.specs.declared.iterable.Iterable.{Iterable}
+use Rattle.source_meaning.specs.Seen.{seen, flow_of, why_of, Tells, TellsBy, TellsFlow}
 use Rattle.source_meaning.specs.Scopes.{scope_of}
 use Rattle.source_meaning.specs.Tasks.{here}
-use Rattle.source_meaning.proofs.Parts.{exprs_begin, some_next, some_end, all_next, all_end}
+use Rattle.source_meaning.proofs.Parts.{exprs_begin, some_next, some_end, all_next, all_end, chain_more}
+use Rattle.source_meaning.proofs.Equations.{expr_Name, expr_Number, expr_Text, expr_True, expr_False, expr_None, expr_Bracketed, expr_Tuple, expr_List, expr_Conditional, expr_Or, expr_And, expr_Not, expr_Unary, expr_Binary, expr_MethodCall, expr_Index, expr_Comprehension, expr_Compare, expr_Call, expr_Slice, expr_Field, iterable_Call, iterable_MethodCall, iterable_other}
+use Rattle.source_meaning.proofs.Turns.{loop_begins, turn_next}
+use Rattle.source_meaning.proofs.Over.{over_items, over_numbers, over_none}
+use Rattle.source_meaning.proofs.Comprehensions.{inner_locals, comprehension_is, comprehension_stops}
 use Rattle.codon_base.specs.declared.value.Value.{Value}
 use Rattle.source_meaning.specs.Collected.{collect}
 use Rattle.source_meaning.proofs.Rest.{after, collect_next, collect_end}
@@ -60,3 +78,136 @@ pub all_true-returns : goal.all_true-returns
 all_true-returns g t c =
     let done = all_end (here c.args.self.now.program.now c.args.self.now.limit c.args.self.now.depth) (scope_of c.args.scope.now) c.args.operands.now c.operands.e-index (seen c.operands.state) c.operands-test.false in
     grind (arith, common_steps, done)
+
+pub gather_turns-turns-init : goal.gather_turns-turns-init
+gather_turns-turns-init g t c = loop_begins (next_by in_place c.args.self.now.limit) (turn_of (here c.args.self.now.program.now c.args.self.now.limit c.args.self.now.depth) [] (Comprehension (scope_of c.args.inner.now) c.args.names.now c.args.condition.now c.args.gathered.now c.args.list.now)) c.args.self.now.limit c.args.from (seen c.args.state.now) c.left-left.result c.left-left.ensures
+
+pub gather_turns-turns-preserved-else-left-eq0 : goal.gather_turns-turns-preserved-else-left-eq0
+gather_turns-turns-preserved-else-left-eq0 g t c = c.turns.invariant ∙ turn_next (next_by in_place c.args.self.now.limit) (turn_of (here c.args.self.now.program.now c.args.self.now.limit c.args.self.now.depth) [] (Comprehension (scope_of c.args.inner.now) c.args.names.now c.args.condition.now c.args.gathered.now c.args.list.now)) c.turns.left c.turns.cursor (seen c.turns.state) (seen c.next.new.state) (seen c.turn.new.state) c.in-Some.item (flow_of c.in_ok-flow.flow) (rw c.in-Some.is at c.in_ok-item.ensures) c.in_ok-flow.ensures (sym c.goes_on.ensures ∙ c.if-not-goes_on.false) (omega arith)
+
+pub gather_turns-turns-preserved-else-left-eq0-2 : goal.gather_turns-turns-preserved-else-left-eq0-2
+gather_turns-turns-preserved-else-left-eq0-2 g t c = c.turns.invariant ∙ turn_next (next_by in_place c.args.self.now.limit) (turn_of (here c.args.self.now.program.now c.args.self.now.limit c.args.self.now.depth) [] (Comprehension (scope_of c.args.inner.now) c.args.names.now c.args.condition.now c.args.gathered.now c.args.list.now)) c.turns.left c.turns.cursor (seen c.turns.state) (seen c.next.new.state) (seen c.turn.new.state) c.in-Some.item (flow_of c.in_ok-flow.flow) (rw c.in-Some.is at c.in_ok-item.ensures) c.in_ok-flow.ensures (sym c.goes_on.ensures ∙ c.if-not-goes_on.false) (omega arith)
+
+pub gather_turns-turns-preserved-else-left-eq0-3 : goal.gather_turns-turns-preserved-else-left-eq0-3
+gather_turns-turns-preserved-else-left-eq0-3 g t c = c.turns.invariant ∙ turn_next (next_by in_place c.args.self.now.limit) (turn_of (here c.args.self.now.program.now c.args.self.now.limit c.args.self.now.depth) [] (Comprehension (scope_of c.args.inner.now) c.args.names.now c.args.condition.now c.args.gathered.now c.args.list.now)) c.turns.left c.turns.cursor (seen c.turns.state) (seen c.next.new.state) (seen c.turn.new.state) c.in-Some.item (flow_of c.in_ok-flow.flow) (rw c.in-Some.is at c.in_ok-item.ensures) c.in_ok-flow.ensures (sym c.goes_on.ensures ∙ c.if-not-goes_on.false) (omega arith)
+
+pub gather_turns-turns-preserved : goal.gather_turns-turns-preserved
+gather_turns-turns-preserved g t c = c.turns.invariant ∙ turn_next (next_by in_place c.args.self.now.limit) (turn_of (here c.args.self.now.program.now c.args.self.now.limit c.args.self.now.depth) [] (Comprehension (scope_of c.args.inner.now) c.args.names.now c.args.condition.now c.args.gathered.now c.args.list.now)) c.turns.left c.turns.cursor (seen c.turns.state) (seen c.next.new.state) (seen c.turn.new.state) c.in-Some.item (flow_of c.in_ok-flow.flow) (rw c.in-Some.is at c.in_ok-item.ensures) c.in_ok-flow.ensures (sym c.goes_on.ensures ∙ c.if-not-goes_on.false) (omega arith)
+
+pub gather-returns-in-Items : goal.gather-returns-in-Items
+gather-returns-in-Items g t c =
+    subst (λ (o : Outcome Flow). TellsFlow o c.gather_turns.result c.gather_turns.new.state)
+    (sym (ap (λ (i : Iterable). looped (here c.args.self.now.program.now c.args.self.now.limit c.args.self.now.depth) [] (iterable_of i) (Comprehension (scope_of c.args.inner.now) c.args.names.now c.args.condition.now c.args.item.now c.args.list.now) (seen c.args.state.now)) c.in-Items.is ∙ over_items (here c.args.self.now.program.now c.args.self.now.limit c.args.self.now.depth) [] (Comprehension (scope_of c.args.inner.now) c.args.names.now c.args.condition.now c.args.item.now c.args.list.now) c.in-Items.container (seen c.args.state.now)))
+    c.gather_turns.ensures
+
+pub gather_numbers-returns-in-Ok : goal.gather_numbers-returns-in-Ok
+gather_numbers-returns-in-Ok g t c =
+    subst (λ (o : Outcome Flow). TellsFlow o c.gather_turns.result c.gather_turns.new.state)
+    (sym (over_numbers (here c.args.self.now.program.now c.args.self.now.limit c.args.self.now.depth) [] (Comprehension (scope_of c.args.inner.now) c.args.names.now c.args.condition.now c.args.item.now c.args.list.now) c.args.start.now c.args.stop.now c.args.step.now (seen c.args.state.now) (seen c.args.state.now) c.in-Ok.cursor c.in-Ok.ensures c.is_within.ensures))
+    c.gather_turns.ensures
+
+pub gather_numbers-returns-in-Err : goal.gather_numbers-returns-in-Err
+gather_numbers-returns-in-Err g t c = λ n. over_none (here c.args.self.now.program.now c.args.self.now.limit c.args.self.now.depth) [] (Comprehension (scope_of c.args.inner.now) c.args.names.now c.args.condition.now c.args.item.now c.args.list.now) c.args.start.now c.args.stop.now c.args.step.now (seen c.args.state.now) (seen c.args.state.now) (why_of c.in-Err.why) (c.in-Err.ensures n)
+
+pub expr-returns-in-Name : goal.expr-returns-in-Name
+expr-returns-in-Name g t c = subst (λ (o : Outcome Value). Tells o c.read_name.result c.read_name.new.state) (sym (ap (λ d. spec.expr (here c.args.self.now.program.now c.args.self.now.limit c.args.self.now.depth) (scope_of c.args.scope.now) d (seen c.args.state.now)) c.in-Name.is ∙ expr_Name (here c.args.self.now.program.now c.args.self.now.limit c.args.self.now.depth) _ _ (scope_of c.args.scope.now) (seen c.args.state.now))) c.read_name.ensures
+
+pub expr-returns-in-Text : goal.expr-returns-in-Text
+expr-returns-in-Text g t c = subst (λ (o : Outcome Value). Tells o c.text_value.result c.args.state.now) (sym (ap (λ d. spec.expr (here c.args.self.now.program.now c.args.self.now.limit c.args.self.now.depth) (scope_of c.args.scope.now) d (seen c.args.state.now)) c.in-Text.is ∙ expr_Text (here c.args.self.now.program.now c.args.self.now.limit c.args.self.now.depth) _ _ (scope_of c.args.scope.now) (seen c.args.state.now))) c.text_value.ensures
+
+pub expr-returns-in-Tuple : goal.expr-returns-in-Tuple
+expr-returns-in-Tuple g t c = subst (λ (o : Outcome Value). Tells o c.tuple.result c.tuple.new.state) (sym (ap (λ d. spec.expr (here c.args.self.now.program.now c.args.self.now.limit c.args.self.now.depth) (scope_of c.args.scope.now) d (seen c.args.state.now)) c.in-Tuple.is ∙ expr_Tuple (here c.args.self.now.program.now c.args.self.now.limit c.args.self.now.depth) _ _ _ (scope_of c.args.scope.now) (seen c.args.state.now))) c.tuple.ensures
+
+pub expr-returns-in-List : goal.expr-returns-in-List
+expr-returns-in-List g t c = subst (λ (o : Outcome Value). Tells o c.list.result c.list.new.state) (sym (ap (λ d. spec.expr (here c.args.self.now.program.now c.args.self.now.limit c.args.self.now.depth) (scope_of c.args.scope.now) d (seen c.args.state.now)) c.in-List.is ∙ expr_List (here c.args.self.now.program.now c.args.self.now.limit c.args.self.now.depth) _ _ (scope_of c.args.scope.now) (seen c.args.state.now))) c.list.ensures
+
+pub expr-returns-in-Conditional : goal.expr-returns-in-Conditional
+expr-returns-in-Conditional g t c = subst (λ (o : Outcome Value). Tells o c.conditional.result c.conditional.new.state) (sym (ap (λ d. spec.expr (here c.args.self.now.program.now c.args.self.now.limit c.args.self.now.depth) (scope_of c.args.scope.now) d (seen c.args.state.now)) c.in-Conditional.is ∙ expr_Conditional (here c.args.self.now.program.now c.args.self.now.limit c.args.self.now.depth) _ _ _ _ (scope_of c.args.scope.now) (seen c.args.state.now))) c.conditional.ensures
+
+pub expr-returns-in-Not : goal.expr-returns-in-Not
+expr-returns-in-Not g t c = subst (λ (o : Outcome Value). Tells o c.negated.result c.negated.new.state) (sym (ap (λ d. spec.expr (here c.args.self.now.program.now c.args.self.now.limit c.args.self.now.depth) (scope_of c.args.scope.now) d (seen c.args.state.now)) c.in-Not.is ∙ expr_Not (here c.args.self.now.program.now c.args.self.now.limit c.args.self.now.depth) _ _ (scope_of c.args.scope.now) (seen c.args.state.now))) c.negated.ensures
+
+pub expr-returns-in-Unary : goal.expr-returns-in-Unary
+expr-returns-in-Unary g t c = subst (λ (o : Outcome Value). Tells o c.unary.result c.unary.new.state) (sym (ap (λ d. spec.expr (here c.args.self.now.program.now c.args.self.now.limit c.args.self.now.depth) (scope_of c.args.scope.now) d (seen c.args.state.now)) c.in-Unary.is ∙ expr_Unary (here c.args.self.now.program.now c.args.self.now.limit c.args.self.now.depth) _ _ _ (scope_of c.args.scope.now) (seen c.args.state.now))) c.unary.ensures
+
+pub expr-returns-in-Binary : goal.expr-returns-in-Binary
+expr-returns-in-Binary g t c = subst (λ (o : Outcome Value). Tells o c.binary.result c.binary.new.state) (sym (ap (λ d. spec.expr (here c.args.self.now.program.now c.args.self.now.limit c.args.self.now.depth) (scope_of c.args.scope.now) d (seen c.args.state.now)) c.in-Binary.is ∙ expr_Binary (here c.args.self.now.program.now c.args.self.now.limit c.args.self.now.depth) _ _ _ _ (scope_of c.args.scope.now) (seen c.args.state.now))) c.binary.ensures
+
+pub expr-returns-in-Index : goal.expr-returns-in-Index
+expr-returns-in-Index g t c = subst (λ (o : Outcome Value). Tells o c.index.result c.index.new.state) (sym (ap (λ d. spec.expr (here c.args.self.now.program.now c.args.self.now.limit c.args.self.now.depth) (scope_of c.args.scope.now) d (seen c.args.state.now)) c.in-Index.is ∙ expr_Index (here c.args.self.now.program.now c.args.self.now.limit c.args.self.now.depth) _ _ _ (scope_of c.args.scope.now) (seen c.args.state.now))) c.index.ensures
+
+pub expr-returns-in-Field : goal.expr-returns-in-Field
+expr-returns-in-Field g t c = subst (λ (o : Outcome Value). Tells o c.field.result c.field.new.state) (sym (ap (λ d. spec.expr (here c.args.self.now.program.now c.args.self.now.limit c.args.self.now.depth) (scope_of c.args.scope.now) d (seen c.args.state.now)) c.in-Field.is ∙ expr_Field (here c.args.self.now.program.now c.args.self.now.limit c.args.self.now.depth) _ _ _ (scope_of c.args.scope.now) (seen c.args.state.now))) c.field.ensures
+
+pub expr-returns-in-Comprehension : goal.expr-returns-in-Comprehension
+expr-returns-in-Comprehension g t c = subst (λ (o : Outcome Value). Tells o c.comprehended.result c.comprehended.new.state) (sym (ap (λ d. spec.expr (here c.args.self.now.program.now c.args.self.now.limit c.args.self.now.depth) (scope_of c.args.scope.now) d (seen c.args.state.now)) c.in-Comprehension.is ∙ expr_Comprehension (here c.args.self.now.program.now c.args.self.now.limit c.args.self.now.depth) _ _ _ _ _ (scope_of c.args.scope.now) (seen c.args.state.now))) c.comprehended.ensures
+
+pub expr-returns-in-Compare : goal.expr-returns-in-Compare
+expr-returns-in-Compare g t c = subst (λ (o : Outcome Value). Tells o c.comparison.result c.comparison.new.state) (sym (ap (λ d. spec.expr (here c.args.self.now.program.now c.args.self.now.limit c.args.self.now.depth) (scope_of c.args.scope.now) d (seen c.args.state.now)) c.in-Compare.is ∙ expr_Compare (here c.args.self.now.program.now c.args.self.now.limit c.args.self.now.depth) _ _ _ (scope_of c.args.scope.now) (seen c.args.state.now))) c.comparison.ensures
+
+pub expr-returns-in-Call : goal.expr-returns-in-Call
+expr-returns-in-Call g t c = subst (λ (o : Outcome Value). Tells o c.called.result c.called.new.state) (sym (ap (λ d. spec.expr (here c.args.self.now.program.now c.args.self.now.limit c.args.self.now.depth) (scope_of c.args.scope.now) d (seen c.args.state.now)) c.in-Call.is ∙ expr_Call (here c.args.self.now.program.now c.args.self.now.limit c.args.self.now.depth) _ _ _ (scope_of c.args.scope.now) (seen c.args.state.now))) c.called.ensures
+
+pub expr-returns-in-MethodCall : goal.expr-returns-in-MethodCall
+expr-returns-in-MethodCall g t c = subst (λ (o : Outcome Value). Tells o c.method_called.result c.method_called.new.state) (sym (ap (λ d. spec.expr (here c.args.self.now.program.now c.args.self.now.limit c.args.self.now.depth) (scope_of c.args.scope.now) d (seen c.args.state.now)) c.in-MethodCall.is ∙ expr_MethodCall (here c.args.self.now.program.now c.args.self.now.limit c.args.self.now.depth) _ _ _ _ _ (scope_of c.args.scope.now) (seen c.args.state.now))) c.method_called.ensures
+
+pub expr-returns-in-Slice : goal.expr-returns-in-Slice
+expr-returns-in-Slice g t c = subst (λ (o : Outcome Value). Tells o c.sliced.result c.sliced.new.state) (sym (ap (λ d. spec.expr (here c.args.self.now.program.now c.args.self.now.limit c.args.self.now.depth) (scope_of c.args.scope.now) d (seen c.args.state.now)) c.in-Slice.is ∙ expr_Slice (here c.args.self.now.program.now c.args.self.now.limit c.args.self.now.depth) _ _ _ _ (scope_of c.args.scope.now) (seen c.args.state.now))) c.sliced.ensures
+
+pub expr-returns-in-Number : goal.expr-returns-in-Number
+expr-returns-in-Number g t c = subst (λ (o : Outcome Value). Tells o c.number_value.result c.args.state.now) (sym (ap (λ d. spec.expr (here c.args.self.now.program.now c.args.self.now.limit c.args.self.now.depth) (scope_of c.args.scope.now) d (seen c.args.state.now)) c.in-Number.is ∙ expr_Number (here c.args.self.now.program.now c.args.self.now.limit c.args.self.now.depth) _ _ (scope_of c.args.scope.now) (seen c.args.state.now))) c.number_value.ensures
+
+pub expr-returns-in-True : goal.expr-returns-in-True
+unfolding pure
+expr-returns-in-True g t c = ap (λ d. spec.expr (here c.args.self.now.program.now c.args.self.now.limit c.args.self.now.depth) (scope_of c.args.scope.now) d (seen c.args.state.now)) c.in-True.is ∙ expr_True (here c.args.self.now.program.now c.args.self.now.limit c.args.self.now.depth) _ (scope_of c.args.scope.now) (seen c.args.state.now)
+
+pub expr-returns-in-False : goal.expr-returns-in-False
+unfolding pure
+expr-returns-in-False g t c = ap (λ d. spec.expr (here c.args.self.now.program.now c.args.self.now.limit c.args.self.now.depth) (scope_of c.args.scope.now) d (seen c.args.state.now)) c.in-False.is ∙ expr_False (here c.args.self.now.program.now c.args.self.now.limit c.args.self.now.depth) _ (scope_of c.args.scope.now) (seen c.args.state.now)
+
+pub expr-returns-in-None : goal.expr-returns-in-None
+unfolding pure
+expr-returns-in-None g t c = ap (λ d. spec.expr (here c.args.self.now.program.now c.args.self.now.limit c.args.self.now.depth) (scope_of c.args.scope.now) d (seen c.args.state.now)) c.in-None.is ∙ expr_None (here c.args.self.now.program.now c.args.self.now.limit c.args.self.now.depth) _ (scope_of c.args.scope.now) (seen c.args.state.now)
+
+pub expr-returns-in-Bracketed : goal.expr-returns-in-Bracketed
+expr-returns-in-Bracketed g t c = subst (λ (o : Outcome Value). Tells o c.expr.result c.expr.new.state) (sym (ap (λ d. spec.expr (here c.args.self.now.program.now c.args.self.now.limit c.args.self.now.depth) (scope_of c.args.scope.now) d (seen c.args.state.now)) c.in-Bracketed.is ∙ expr_Bracketed (here c.args.self.now.program.now c.args.self.now.limit c.args.self.now.depth) _ _ (scope_of c.args.scope.now) (seen c.args.state.now) ∙ ap (λ d. spec.expr (here c.args.self.now.program.now c.args.self.now.limit c.args.self.now.depth) (scope_of c.args.scope.now) d (seen c.args.state.now)) (sym c.get.ensures))) c.expr.ensures
+
+pub expr-returns-in-Or : goal.expr-returns-in-Or
+expr-returns-in-Or g t c = subst (λ (o : Outcome Value). Tells o c.some_true.result c.some_true.new.state) (sym (ap (λ d. spec.expr (here c.args.self.now.program.now c.args.self.now.limit c.args.self.now.depth) (scope_of c.args.scope.now) d (seen c.args.state.now)) c.in-Or.is ∙ expr_Or (here c.args.self.now.program.now c.args.self.now.limit c.args.self.now.depth) _ _ (scope_of c.args.scope.now) (seen c.args.state.now) ∙ ap (λ d. lists.some_true (here c.args.self.now.program.now c.args.self.now.limit c.args.self.now.depth) (scope_of c.args.scope.now) d (seen c.args.state.now)) (sym c.as_slice.ensures))) c.some_true.ensures
+
+pub expr-returns-in-And : goal.expr-returns-in-And
+expr-returns-in-And g t c = subst (λ (o : Outcome Value). Tells o c.all_true.result c.all_true.new.state) (sym (ap (λ d. spec.expr (here c.args.self.now.program.now c.args.self.now.limit c.args.self.now.depth) (scope_of c.args.scope.now) d (seen c.args.state.now)) c.in-And.is ∙ expr_And (here c.args.self.now.program.now c.args.self.now.limit c.args.self.now.depth) _ _ (scope_of c.args.scope.now) (seen c.args.state.now) ∙ ap (λ d. lists.all_true (here c.args.self.now.program.now c.args.self.now.limit c.args.self.now.depth) (scope_of c.args.scope.now) d (seen c.args.state.now)) (sym c.as_slice-in-And.ensures))) c.all_true.ensures
+
+pub iterable-returns-in-Call : goal.iterable-returns-in-Call
+iterable-returns-in-Call g t c = subst (λ (o : Outcome loops.Iterable). TellsBy iterable_of o c.called_iterable.result c.called_iterable.new.state) (sym (ap (λ d. spec.iterable (here c.args.self.now.program.now c.args.self.now.limit c.args.self.now.depth) (scope_of c.args.scope.now) d (seen c.args.state.now)) c.in-Call.is ∙ iterable_Call (here c.args.self.now.program.now c.args.self.now.limit c.args.self.now.depth) _ _ _ (scope_of c.args.scope.now) (seen c.args.state.now))) c.called_iterable.ensures
+
+pub iterable-returns-in-MethodCall : goal.iterable-returns-in-MethodCall
+iterable-returns-in-MethodCall g t c = subst (λ (o : Outcome loops.Iterable). TellsBy iterable_of o c.method_iterable.result c.method_iterable.new.state) (sym (ap (λ d. spec.iterable (here c.args.self.now.program.now c.args.self.now.limit c.args.self.now.depth) (scope_of c.args.scope.now) d (seen c.args.state.now)) c.in-MethodCall.is ∙ iterable_MethodCall (here c.args.self.now.program.now c.args.self.now.limit c.args.self.now.depth) _ _ _ _ _ (scope_of c.args.scope.now) (seen c.args.state.now))) c.method_iterable.ensures
+
+pub value_iterable-returns-in-Ok : goal.value_iterable-returns-in-Ok
+value_iterable-returns-in-Ok g t c = iterable_other (here c.args.self.now.program.now c.args.self.now.limit c.args.self.now.depth) (scope_of c.args.scope.now) (seen c.args.state.now) c.args.e.now c.requires.form ∙ ap (λ (o : Outcome Value). and_then o (λ container s. Gives (loops.Items container) s)) c.in-Ok.ensures
+
+pub value_iterable-returns-in-Err : goal.value_iterable-returns-in-Err
+value_iterable-returns-in-Err g t c = λ n. iterable_other (here c.args.self.now.program.now c.args.self.now.limit c.args.self.now.depth) (scope_of c.args.scope.now) (seen c.args.state.now) c.args.e.now c.requires.form ∙ ap (λ (o : Outcome Value). and_then o (λ container s. Gives (loops.Items container) s)) (c.in-Err.ensures n)
+
+pub comprehension-returns : goal.comprehension-returns
+comprehension-returns g t c =
+    let all : c.deref.result.now ≡ record { names = c.args.names } ∷ c.args.scope.now.inner.now = cc (c.deref.ensures.value, c.in_ok-all.ensures) in
+    subst (λ (ls : List Spelling). Tells (comprehended_in (here c.args.self.now.program.now c.args.self.now.limit c.args.self.now.depth) (record { locals = ls; fixed = c.args.scope.now.fixed.now; in_prelude = c.args.scope.now.in_prelude }) c.args.names.now (iterable_of c.args.goes_over) c.args.condition.now c.args.item.now (seen c.args.state.now)) c.comprehension_in.result c.comprehension_in.new.state)
+    (inner_locals (record { names = c.args.names }) c.args.scope.now.inner.now c.deref.result.now c.args.scope.now.locals.now all)
+    c.comprehension_in.ensures
+
+pub comprehension_in-returns-in-Ok : goal.comprehension_in-returns-in-Ok
+comprehension_in-returns-in-Ok g t c =
+    let made : allocate (Listed []) (seen c.args.state.now) ≡ Gives c.in_ok-list.list (seen c.allocate.new.state) = subst (λ (l : List Value). allocate (Listed l) (seen c.args.state.now) ≡ Gives c.in_ok-list.list (seen c.allocate.new.state)) c.new.ensures c.in_ok-list.ensures in
+    comprehension_is (here c.args.self.now.program.now c.args.self.now.limit c.args.self.now.depth) (scope_of c.args.inner.now) c.args.names.now (iterable_of c.args.goes_over) c.args.condition.now c.args.item.now (seen c.args.state.now) (seen c.allocate.new.state) (seen c.gather.new.state) c.in_ok-list.list (flow_of c.in-Ok.field-0) made c.in-Ok.ensures
+    ∙ ap (λ (u : State). Gives c.in_ok-list.list u) (ap (λ (ns : Names). with_names ns (seen c.gather.new.state)) (sym c.in_ok-own.ensures) ∙ sym c.swap_names.ensures.new)
+
+pub comprehension_in-returns-in-Err : goal.comprehension_in-returns-in-Err
+comprehension_in-returns-in-Err g t c =
+    let made : allocate (Listed []) (seen c.args.state.now) ≡ Gives c.in_ok-list.list (seen c.allocate.new.state) = subst (λ (l : List Value). allocate (Listed l) (seen c.args.state.now) ≡ Gives c.in_ok-list.list (seen c.allocate.new.state)) c.new.ensures c.in_ok-list.ensures in
+    λ n. comprehension_stops (here c.args.self.now.program.now c.args.self.now.limit c.args.self.now.depth) (scope_of c.args.inner.now) c.args.names.now (iterable_of c.args.goes_over) c.args.condition.now c.args.item.now (seen c.args.state.now) (seen c.allocate.new.state) (seen c.gather.new.state) c.in_ok-list.list (why_of c.in-Err.why) made (c.in-Err.ensures n)
+
+pub chain-chain-preserved : goal.chain-chain-preserved
+chain-chain-preserved g t c =
+    c.chain.invariant ∙ chain_more (here c.args.self.now.program.now c.args.self.now.limit c.args.self.now.depth) (scope_of c.args.scope.now) c.args.others.now c.chain.each-index c.each-item.result c.chain.v c.in-Some.w (seen c.chain.state) (seen c.compare.new.state) c.chain-test.true c.each-item.is (rw c.in-Some.is at c.in_ok-w.ensures)
