@@ -12,6 +12,9 @@ use Rattle.source_meaning.specs.Task.{Stages}
 use Rattle.source_meaning.specs.Seen.{seen, flow_of, why_of, TellsFlow}
 use Rattle.source_meaning.specs.Scopes.{scope_of}
 use Rattle.source_meaning.specs.Tasks.{here, consumers_of, region_at, region_of}
+use Rattle.source_meaning.specs.Steps.{iterable_of, looped}
+use Rattle.source_meaning.specs.declared.iterable.Iterable.{Iterable}
+use Rattle.source_meaning.proofs.Over.{over_items, over_numbers, over_none}
 use Rattle.source_meaning.proofs.Turns.{loop_begins, turn_next}
 use Rattle.source_meaning.proofs.Ahead.{ahead_some, ahead_none, through_next, through_end}
 use Rattle.source_meaning.proofs.Apart.{region_gives, region_stops, region_stops_after, item_gives, item_stops_before, item_stops, item_stops_after, stage_is, stage_above}
@@ -67,3 +70,18 @@ perform_ahead-returns-in-Some g t c = let more = ahead_some (here c.args.self.no
 pub perform_ahead-returns-in_err-region-in-Some : goal.perform_ahead-returns-in_err-region-in-Some
 unfolding bind
 perform_ahead-returns-in_err-region-in-Some g t c = λ known. ahead_some (here c.args.self.now.program.now c.args.self.now.limit c.args.self.now.depth) (consumers_of c.args.consumers.now) (scope_of c.args.scope.now) (λ r. staged (here c.args.self.now.program.now c.args.self.now.limit c.args.self.now.depth) (consumers_of c.args.consumers.now) (scope_of c.args.scope.now) c.args.form.now r (drop c.args.from c.args.stages.now) c.args.v) c.args.stages.now (parallel_part (drop c.args.from c.args.stages.now)) c.in-Some.place (seen c.args.state.now) c.in-Some.ensures.0 c.in-Some.ensures.1 ∙ ap (λ p. and_then p (λ region. in_place.region region ((λ r. staged (here c.args.self.now.program.now c.args.self.now.limit c.args.self.now.depth) (consumers_of c.args.consumers.now) (scope_of c.args.scope.now) c.args.form.now r (drop c.args.from c.args.stages.now) c.args.v) (Some region)))) (c.in_err-region-in-Some.ensures known)
+
+pub stage_turns-returns-in-Items : goal.stage_turns-returns-in-Items
+stage_turns-returns-in-Items g t c =
+    subst (λ (o : Outcome Flow). TellsFlow o c.turns_through.result c.turns_through.new.state)
+    (sym (ap (λ (i : Iterable). looped (here c.args.self.now.program.now c.args.self.now.limit c.args.self.now.depth) (consumers_of c.args.consumers.now) (iterable_of i) (Stages (scope_of c.args.scope.now) (region_at c.args.region) (drop c.args.from c.args.stages.now)) (seen c.args.state.now)) c.in-Items.is ∙ over_items (here c.args.self.now.program.now c.args.self.now.limit c.args.self.now.depth) (consumers_of c.args.consumers.now) (Stages (scope_of c.args.scope.now) (region_at c.args.region) (drop c.args.from c.args.stages.now)) c.in-Items.container (seen c.args.state.now)))
+    c.turns_through.ensures
+
+pub range_through-returns-in-Ok : goal.range_through-returns-in-Ok
+range_through-returns-in-Ok g t c =
+    subst (λ (o : Outcome Flow). TellsFlow o c.turns_through.result c.turns_through.new.state)
+    (sym (over_numbers (here c.args.self.now.program.now c.args.self.now.limit c.args.self.now.depth) (consumers_of c.args.consumers.now) (Stages (scope_of c.args.scope.now) (region_at c.args.region) (drop c.args.from c.args.stages.now)) c.args.start.now c.args.stop.now c.args.step.now (seen c.args.state.now) (seen c.args.state.now) c.in-Ok.cursor c.in-Ok.ensures c.is_within.ensures))
+    c.turns_through.ensures
+
+pub range_through-returns-in-Err : goal.range_through-returns-in-Err
+range_through-returns-in-Err g t c = λ n. over_none (here c.args.self.now.program.now c.args.self.now.limit c.args.self.now.depth) (consumers_of c.args.consumers.now) (Stages (scope_of c.args.scope.now) (region_at c.args.region) (drop c.args.from c.args.stages.now)) c.args.start.now c.args.stop.now c.args.step.now (seen c.args.state.now) (seen c.args.state.now) (why_of c.in-Err.e) (c.in-Err.ensures n)

@@ -8,7 +8,9 @@ use Rattle.source_meaning.specs.Meaning.{turn_of}
 use Rattle.source_meaning.specs.Statements.{stmt, statements, raise}
 use Rattle.source_meaning.specs.Expressions.{condition}
 use Rattle.source_meaning.specs.Loops.{while_next}
-use Rattle.source_meaning.specs.Steps.{chosen}
+use Rattle.source_meaning.specs.Steps.{chosen, iterable_of, looped}
+use Rattle.source_meaning.specs.declared.iterable.Iterable.{Iterable}
+use Rattle.source_meaning.proofs.Over.{over_items, over_numbers, over_none}
 use Rattle.source_meaning.specs.Task.{Body}
 use Rattle.source_meaning.specs.Regions.{consumer_in}
 use Rattle.source_meaning.specs.Inside.{saved_of}
@@ -137,3 +139,18 @@ turns-turns-preserved-else-left-eq0-2 g t c = c.turns.invariant ∙ turn_next (n
 
 pub turns-turns-preserved-else-left-eq0-3 : goal.turns-turns-preserved-else-left-eq0-3
 turns-turns-preserved-else-left-eq0-3 g t c = c.turns.invariant ∙ turn_next (next_by in_place c.args.self.now.limit) (turn_of (here c.args.self.now.program.now c.args.self.now.limit c.args.self.now.depth) (consumers_of c.args.consumers.now) (consumer_in (region_at c.args.region) (scope_of c.args.scope.now) c.args.l.now)) c.turns.left c.turns.cursor (seen c.turns.state) (seen c.next.new.state) (seen c.a_turn.new.state) c.in-Some.item (flow_of c.in_ok-flow.flow) (rw c.in-Some.is at c.in_ok-item.ensures) c.in_ok-flow.ensures (sym c.goes_on.ensures ∙ c.if-not-goes_on.false) (omega arith)
+
+pub loop_body-returns-in-Items : goal.loop_body-returns-in-Items
+loop_body-returns-in-Items g t c =
+    subst (λ (o : Outcome Flow). TellsFlow o c.turns.result c.turns.new.state)
+    (sym (ap (λ (i : Iterable). looped (here c.args.self.now.program.now c.args.self.now.limit c.args.self.now.depth) (consumers_of c.args.consumers.now) (iterable_of i) (consumer_in (region_at c.args.region) (scope_of c.args.scope.now) c.args.l.now) (seen c.args.state.now)) c.in-Items.is ∙ over_items (here c.args.self.now.program.now c.args.self.now.limit c.args.self.now.depth) (consumers_of c.args.consumers.now) (consumer_in (region_at c.args.region) (scope_of c.args.scope.now) c.args.l.now) c.in-Items.container (seen c.args.state.now)))
+    c.turns.ensures
+
+pub range_turns-returns-in-Ok : goal.range_turns-returns-in-Ok
+range_turns-returns-in-Ok g t c =
+    subst (λ (o : Outcome Flow). TellsFlow o c.turns.result c.turns.new.state)
+    (sym (over_numbers (here c.args.self.now.program.now c.args.self.now.limit c.args.self.now.depth) (consumers_of c.args.consumers.now) (consumer_in (region_at c.args.region) (scope_of c.args.scope.now) c.args.l.now) c.args.start.now c.args.stop.now c.args.step.now (seen c.args.state.now) (seen c.args.state.now) c.in-Ok.cursor c.in-Ok.ensures c.is_within.ensures))
+    c.turns.ensures
+
+pub range_turns-returns-in-Err : goal.range_turns-returns-in-Err
+range_turns-returns-in-Err g t c = λ n. over_none (here c.args.self.now.program.now c.args.self.now.limit c.args.self.now.depth) (consumers_of c.args.consumers.now) (consumer_in (region_at c.args.region) (scope_of c.args.scope.now) c.args.l.now) c.args.start.now c.args.stop.now c.args.step.now (seen c.args.state.now) (seen c.args.state.now) (why_of c.in-Err.e) (c.in-Err.ensures n)
