@@ -4,6 +4,7 @@ ghost use Rattle.std.specs.Prelude.{drop};
 ghost use Rattle.source_meaning.specs.Pipelines as spec;
 ghost use Rattle.source_meaning.specs.Callees.{builtin_of};
 ghost use Rattle.source_meaning.specs.Expressions.{call_builtin};
+ghost use Rattle.source_meaning.specs.Loops.{Numbers};
 ghost use Rattle.source_meaning.specs.Meaning.{turn_of};
 ghost use Rattle.source_meaning.specs.Program.{callee, ToList};
 ghost use Rattle.source_meaning.specs.Scopes.{scope_of};
@@ -20,6 +21,7 @@ use crate::cursor::{begun, next};
 use crate::flow::{End, Flow, after_loop, ended, goes_on};
 use crate::iterable::{Cursor, Iterable};
 use crate::iterations::{enter_iteration, finish_region, leave_iteration, start_region};
+use crate::loops::is_within;
 use crate::operations::builtin;
 use crate::prepared::Prepared;
 use crate::runner::Runner;
@@ -230,10 +232,22 @@ impl<'m, F: Fn(Global, &Prepared<'_>, u64, u32, &mut State, &[Consumer<'_>], Tas
         match goes_over {
             Iterable::Generated(called, given) => self.generate(state, consumers, Consumer::Stages(*scope, region, stages, from), called, given),
             Iterable::Items(container) => self.turns_through(state, consumers, scope, Cursor::Item(container, 0), region, stages, from),
-            Iterable::Numbers(start, stop, step) => {
-                let cursor = begun(self.alloc, state, &start, &stop, &step)?;
+            Iterable::Numbers(start, stop, step) => self.range_through(state, consumers, scope, &start, &stop, &step, region, stages, from),
+        }
+    }
+
+    /// The turns of a loop over a range.
+    #[cycle(pipeline)]
+    fn range_through(&self, state: &mut State, consumers: &[Consumer<'_>], scope: &Scope<'_>, start: &Value, stop: &Value, step: &Value, region: Option<&Region>, stages: &Items<Stage>, from: usize) -> Result<Flow, Stop>
+        requires { Nests self.now.program.now self.now.limit self.now.depth (F.pre self.now.low) (F.post self.now.low) }
+        ensures { TellsFlow (looped (here self.now.program.now self.now.limit self.now.depth) (consumers_of consumers.now) (Numbers start.now stop.now step.now) (Stages (scope_of scope.now) (region_at region.entry) (drop from stages.now)) (seen state.old)) result state.new }
+    {
+        match begun(self.alloc, state, start, stop, step) {
+            Ok(cursor) => {
+                is_within(&cursor);
                 self.turns_through(state, consumers, scope, cursor, region, stages, from)
             }
+            Err(e) => Err(e),
         }
     }
 

@@ -1,7 +1,7 @@
-#![tactic(auto, unfolding(crate::specs::Outcome::bind, crate::specs::Outcome::pure, crate::specs::Outcome::stop), using(crate::proofs::StatementEquations::stmt_rules))]
+#![tactic(auto, unfolding(crate::specs::Outcome::bind, crate::specs::Outcome::pure, crate::specs::Outcome::stop))]
 
-ghost use Rattle.std.specs.Prelude.{◌≡◌};
 ghost use Rattle.source_meaning.specs.Loops as spec;
+ghost use Rattle.source_meaning.specs.Loops.{Numbers};
 ghost use Rattle.source_meaning.specs.Meaning.{turn_of};
 ghost use Rattle.source_meaning.specs.Outcome.{bind, pure};
 ghost use Rattle.source_meaning.specs.Regions.{consumer_in};
@@ -10,11 +10,12 @@ ghost use Rattle.source_meaning.specs.Seen.{seen, TellsFlow};
 ghost use Rattle.source_meaning.specs.Statements.{stmt, statements};
 ghost use Rattle.source_meaning.specs.Steps.{iterable_of, looped, turns_from, chosen, while_of, for_of};
 ghost use Rattle.source_meaning.specs.Task.{Body};
-ghost use Rattle.source_meaning.specs.Tasks.{Nests, here, consumer_of, consumers_of, region_at};
+ghost use Rattle.source_meaning.specs.Tasks.{Nests, here, consumers_of, region_at};
 
 use crate::cursor::{begun, next};
 use crate::flow::{End, Flow, after_loop, ended, goes_on, is_next};
 use crate::iterable::{Cursor, Iterable};
+use crate::loops::is_within;
 use crate::prepared::Prepared;
 use crate::runner::Runner;
 use crate::scope::Scope;
@@ -26,16 +27,6 @@ use codon_base::Value;
 use source_trees::{Arm, Expr, For, LoopNames, Stmt};
 use sqlite_items::Items;
 use std::alloc::Global;
-
-/// What takes the items of a loop in turn, or of one in a region.
-fn consumer_in<'a>(scope: &Scope<'a>, region: Option<&'a Region>, l: &'a For) -> Consumer<'a>
-    ensures { consumer_of result ≡ consumer_in (region_at region.entry) (scope_of scope.now) l.now }
-{
-    match region {
-        Some(region) => Consumer::Parallel(region, *scope, &l.names, &l.body),
-        None => Consumer::Body(*scope, &l.names, &l.body),
-    }
-}
 
 impl<'m, F: Fn(Global, &Prepared<'_>, u64, u32, &mut State, &[Consumer<'_>], Task<'_>) -> Result<Flow, Stop>> Runner<'m, F> {
     #[cycle(statement)]
@@ -129,12 +120,27 @@ impl<'m, F: Fn(Global, &Prepared<'_>, u64, u32, &mut State, &[Consumer<'_>], Tas
         ensures { TellsFlow (looped (here self.now.program.now self.now.limit self.now.depth) (consumers_of consumers.now) (iterable_of goes_over.entry) (consumer_in (region_at region.entry) (scope_of scope.now) l.now) (seen state.old)) result state.new }
     {
         match goes_over {
-            Iterable::Generated(called, given) => self.generate(state, consumers, consumer_in(scope, region, l), called, given),
+            Iterable::Generated(called, given) => match region {
+                Some(region) => self.generate(state, consumers, Consumer::Parallel(region, *scope, &l.names, &l.body), called, given),
+                None => self.generate(state, consumers, Consumer::Body(*scope, &l.names, &l.body), called, given),
+            },
             Iterable::Items(container) => self.turns(state, consumers, scope, region, l, Cursor::Item(container, 0)),
-            Iterable::Numbers(start, stop, step) => {
-                let cursor = begun(self.alloc, state, &start, &stop, &step)?;
+            Iterable::Numbers(start, stop, step) => self.range_turns(state, consumers, scope, region, l, &start, &stop, &step),
+        }
+    }
+
+    /// The turns of a loop over a range.
+    #[cycle(statement)]
+    fn range_turns(&self, state: &mut State, consumers: &[Consumer<'_>], scope: &Scope<'_>, region: Option<&Region>, l: &For, start: &Value, stop: &Value, step: &Value) -> Result<Flow, Stop>
+        requires { Nests self.now.program.now self.now.limit self.now.depth (F.pre self.now.low) (F.post self.now.low) }
+        ensures { TellsFlow (looped (here self.now.program.now self.now.limit self.now.depth) (consumers_of consumers.now) (Numbers start.now stop.now step.now) (consumer_in (region_at region.entry) (scope_of scope.now) l.now) (seen state.old)) result state.new }
+    {
+        match begun(self.alloc, state, start, stop, step) {
+            Ok(cursor) => {
+                is_within(&cursor);
                 self.turns(state, consumers, scope, region, l, cursor)
             }
+            Err(e) => Err(e),
         }
     }
 

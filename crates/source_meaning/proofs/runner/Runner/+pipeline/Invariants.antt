@@ -12,31 +12,34 @@ use Rattle.source_meaning.proofs.runner.Runner.+pipeline.Given as goal
 
 -- the stages that are left, and then the steps within a stage
 abbrev pub decreases-through : goal.decreases-through
-decreases-through g l = 9 * (length l.stages.now - l.place)
+decreases-through g l = 10 * (length l.stages.now - l.place)
 
 abbrev pub decreases-turns_through : goal.decreases-turns_through
-decreases-turns_through g l = 9 * (length l.stages.now - l.from) + 1
+decreases-turns_through g l = 10 * (length l.stages.now - l.from) + 1
+
+abbrev pub decreases-range_through : goal.decreases-range_through
+decreases-range_through g l = 10 * (length l.stages.now - l.from) + 2
 
 abbrev pub decreases-stage_turns : goal.decreases-stage_turns
-decreases-stage_turns g l = 9 * (length l.stages.now - l.from) + 2
+decreases-stage_turns g l = 10 * (length l.stages.now - l.from) + 3
 
 abbrev pub decreases-stage_loop : goal.decreases-stage_loop
-decreases-stage_loop g l = 9 * (length l.stages.now - l.from) + 3
+decreases-stage_loop g l = 10 * (length l.stages.now - l.from) + 4
 
 abbrev pub decreases-call_stage : goal.decreases-call_stage
-decreases-call_stage g l = 9 * (length l.stages.now - l.from) + 4
+decreases-call_stage g l = 10 * (length l.stages.now - l.from) + 5
 
 abbrev pub decreases-perform : goal.decreases-perform
-decreases-perform g l = 9 * (length l.stages.now - l.from) + 5
+decreases-perform g l = 10 * (length l.stages.now - l.from) + 6
 
 abbrev pub decreases-perform_inside : goal.decreases-perform_inside
-decreases-perform_inside g l = 9 * (length l.stages.now - l.from) + 6
+decreases-perform_inside g l = 10 * (length l.stages.now - l.from) + 7
 
 abbrev pub decreases-perform_ahead : goal.decreases-perform_ahead
-decreases-perform_ahead g l = 9 * (length l.stages.now - l.from) + 7
+decreases-perform_ahead g l = 10 * (length l.stages.now - l.from) + 8
 
 abbrev pub decreases-parallel_stage : goal.decreases-parallel_stage
-decreases-parallel_stage g l = 9 * (length l.stages.now - l.from) + 8
+decreases-parallel_stage g l = 10 * (length l.stages.now - l.from) + 9
 
 abbrev pub invariant-turns_through-turns : goal.invariant-turns_through-turns
 invariant-turns_through-turns g l =
