@@ -5,8 +5,10 @@ mod ClosedExpressions
 mod ClosedPipelines
 mod ClosedStatements
 mod ClosedRuns
+mod Longer
 mod Fuel
 pub mod LawsHold
+pub mod Depths
 pub mod Waiting
 pub mod BodyEquations
 pub mod NoteEquations
@@ -29,3 +31,8 @@ pub mod Over
 pub mod MethodCalls
 pub mod Assigns
 pub mod Rounds
+pub mod Capturing
+pub mod Answered
+pub mod Tops
+pub mod Deeper
+pub mod Modules
