@@ -127,7 +127,12 @@ module _ (limit least : ℕ) where
 
   iterations_alike : (n : ℕ) (A : Type 0) (iteration : Iteration) (own own_globals : List Spelling) (p q : Run A) → Bounded limit least n A p q → Bounded limit least n A (in_iteration iteration own own_globals p) (in_iteration iteration own own_globals q)
   unfolding in_iteration
-  iterations_alike n A iteration own own_globals p q e s low high = alike_then limit s.shared.used _ _ _ _ (e _ low high) (λ a t i h. still limit s a _ refl high)
+  iterations_alike n A iteration own own_globals p q e s low high = alike_then limit s.shared.used _ _ _ _
+      (e (record s {
+        names = with_names_of unset_names own s.names;
+        shared = record s.shared { levels = s.shared.levels ++ [] ∷ []; globals = with_names_of unset_names own_globals s.shared.globals; iterations = s.shared.iterations ++ iteration ∷ [] };
+      }) low high)
+      (λ a t i h. still limit s a _ refl high)
 
   counted_used : (counts : Bool) (before after : Shared) → (counted counts before after).used ≡ after.used
   counted_used true before after = refl
@@ -136,7 +141,7 @@ module _ (limit least : ℕ) where
   counting_alike : (n : ℕ) (p q : Run Flow) → Bounded limit least n Flow p q → Bounded limit least n Flow (counting p) (counting q)
   unfolding counting
   counting_alike n p q e s low high =
-      alike_then limit s.shared.used _ _ _ _ (e _ low high)
+      alike_then limit s.shared.used _ _ _ _ (e (record s { shared = record s.shared { reached = 0 } }) low high)
       (λ flow t i h.
       let used = counted_used (is_outside s.shared.iterations && is_next flow) s.shared t.shared in
       record { equal = refl; within = (omega (arith, used), omega (arith, used)) })
@@ -204,7 +209,8 @@ module _ (program : Program) (limit : ℕ) (deep other : Stop) where
   unfolding run
   runs_alike zero k least a b consumers t s low high = absurd (omega arith)
   runs_alike (suc n) zero least a b consumers t s low high = absurd (omega arith)
-  runs_alike (suc n) (suc k) least a b consumers t = task_closed program (bounded limit least (run program in_place limit deep n) (run program in_place limit other k) (runs_alike n k (suc least) (omega arith) (omega arith))) consumers t
+  runs_alike (suc n) (suc k) least a b consumers t s low high =
+      task_closed program (bounded limit least (run program in_place limit deep n) (run program in_place limit other k) (runs_alike n k (suc least) (omega arith) (omega arith))) consumers t s low high
 
 deep_enough : (m : Module) (fuel depth : ℕ) → fuel ≤ depth → outcome m fuel depth TooDeep ≡ outcome m fuel fuel OutOfFuel
 unfolding outcome

@@ -1,14 +1,14 @@
 -- More fuel, and deeper calls, change no run that ends, and a run that is cut off has printed the beginning of what it prints on more. The ends are open: where both runs have the same fuel, a run that is out of it ends too.
 use Rattle.std.proofs.Common.{◌≡◌, ◌≢◌, ℕ, ◌-◌, ◌≤◌, Bool, true, false, if◌then◌else◌, nat_lt, List, length, refl, sym, ap, subst, arith}
 use Rattle.std.proofs.lemmas.Bool.Decides.{nat_tests}
-use Rattle.source_meaning.specs.State.{Stop, OutOfFuel, Flow}
+use Rattle.source_meaning.specs.State.{State, Stop, OutOfFuel, Flow}
 use Rattle.source_meaning.specs.Outcome.{Outcome, Gives, Stops, Run, bind, tick, by_fuel}
 use Rattle.source_meaning.specs.Task.{Consumer, Task}
 use Rattle.source_meaning.specs.Iterations.{in_place}
 use Rattle.source_meaning.proofs.Closed.{Relation, Closed}
 use Rattle.source_meaning.proofs.Longer.{out_of, Begins, begins_itself, Later, Longer, same_step, pures_later, stops_later, looks_later, names_later, globals_later, levels_later, writes_later, binds_later, frames_later, generates_later, suspends_later, counting_later, items_later, cuts_later}
 
-tick_either : (final : Stop → Type 0) {A : Type 0} (before : List ℕ) (x : Outcome A) (s : _) (b c : Bool) → (b ≡ true → c ≡ true) → (b ≡ false → c ≡ true → final OutOfFuel → ⊥) → before ≡ s.shared.out → Begins before (out_of x) → Later final A before (if b then x else Stops OutOfFuel s) (if c then x else Stops OutOfFuel s)
+tick_either : (final : Stop → Type 0) {A : Type 0} (before : List ℕ) (x : Outcome A) (s : State) (b c : Bool) → (b ≡ true → c ≡ true) → (b ≡ false → c ≡ true → final OutOfFuel → ⊥) → before ≡ s.shared.out → Begins before (out_of x) → Later final A before (if b then x else Stops OutOfFuel s) (if c then x else Stops OutOfFuel s)
 tick_either final before x s true c f d e g = subst (λ t. Later final _ before x (if t then x else Stops OutOfFuel s)) (sym (f refl)) (same_step final _ _ g)
 tick_either final before x s false true f d e g = record { stays = λ h. absurd (d refl refl h); grows = g; begins = subst (λ l. Begins l (out_of x)) e g }
 tick_either final before x s false false f d e g = same_step final _ _ (subst (λ l. Begins before l) e (begins_itself before))

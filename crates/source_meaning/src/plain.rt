@@ -2,7 +2,8 @@
 
 ghost use Rattle.std.specs.Prelude.{◌≡◌, [], IfOk};
 ghost use Rattle.std.specs.List.{flat_map};
-ghost use Rattle.source_meaning.specs.Meaning.{turn_of, task, outcome, meaning, start};
+ghost use Rattle.source_meaning.specs.Meaning as runs;
+ghost use Rattle.source_meaning.specs.Meaning.{turn_of, outcome, meaning, start};
 ghost use Rattle.source_meaning.specs.Plain.{item_of, IsRun, IsEnd, IsMeant};
 ghost use Rattle.source_meaning.specs.Program as spec;
 ghost use Rattle.source_meaning.specs.Program.{module_scope, statement_in};
@@ -45,7 +46,7 @@ impl<'m, F: Fn(Global, &Prepared<'_>, u64, u32, &mut State, &[Consumer<'_>], Tas
     /// A body that is entered, or a turn.
     fn task(&self, state: &mut State, consumers: &[Consumer<'_>], task: Task<'_>) -> Result<Flow, Stop>
         requires { Nests self.now.program.now self.now.limit self.now.depth (F.pre self.now.low) (F.post self.now.low) }
-        ensures { TellsFlow (task (here self.now.program.now self.now.limit self.now.depth) (consumers_of consumers.now) (task_of task.entry) (seen state.old)) result state.new }
+        ensures { TellsFlow (runs.task (here self.now.program.now self.now.limit self.now.depth) (consumers_of consumers.now) (task_of task.entry) (seen state.old)) result state.new }
     {
         match task {
             Task::Enter(scope, body) => self.block(state, consumers, &scope, body),
@@ -111,7 +112,7 @@ fn run_to(alloc: Global, program: &Prepared<'_>, limit: u64, depth: u32, state: 
     if depth == 0 {
         return Err(Stop::TooDeep);
     }
-    let runner = Runner { alloc, program, limit, depth: depth - 1, low: run_to };
+    let runner = Runner { alloc, program: &*program, limit, depth: depth - 1, low: run_to };
     runner.task(state, consumers, task)
 }
 

@@ -11,5 +11,5 @@ returns c =
     let b = c.in_ok-fixed.ensures in
     let d = c.as_slice-2.ensures in
     subst (λ o. TellsFlow o c.top.result c.top.new.state)
-    (run_is c.args.«module».now c.args.fuel c.args.depth (program_of c.args.program.now) c.as_slice.result.now c.as_slice-2.result.now (seen c.args.state.now) c.requires.program cc cc c.requires.begins)
+    (run_is c.args.«module».now c.args.fuel c.args.depth (program_of c.args.program.now) c.as_slice.result.now c.as_slice-2.result.now (seen c.args.state.now) c.requires.program (cc) (cc) c.requires.begins)
     c.top.ensures
