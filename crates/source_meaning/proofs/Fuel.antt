@@ -50,7 +50,7 @@ module _ (final : Stop → Type 0) (limit more : ℕ) (le : limit ≤ more) (mor
     cuts = λ different. cuts_later final OutOfFuel (more_is_no_end different);
     lifts = λ n A p q e. e;
     Ticked = Longer final;
-    enters = λ n A k l e. binds_later final n (Unit {0}) A _ _ k l (ticks_later n) e;
+    enters = λ n A k l e. binds_later final n (Unit {0}) A (tick limit) (tick more) k l (ticks_later n) e;
     binds_ticked = binds_later final;
     frames_ticked = frames_later final;
     generates_ticked = generates_later final;

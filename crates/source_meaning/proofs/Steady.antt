@@ -150,7 +150,7 @@ module _ (limit : ℕ) where
     cuts = λ different n A p q e. e;
     lifts = λ n A p q e. e;
     Ticked = Steady;
-    enters = λ n A k l e. binds_steady n (Unit {0}) A _ _ k l (ticks_steady n) e;
+    enters = λ n A k l e. binds_steady n (Unit {0}) A (tick limit) (tick limit) k l (ticks_steady n) e;
     binds_ticked = binds_steady;
     frames_ticked = frames_steady;
     generates_ticked = generates_steady;

@@ -166,7 +166,7 @@ module _ (limit : ℕ) where
     cuts = λ different n A p q e. e;
     lifts = lifts_kept;
     Ticked = Keeping;
-    enters = λ n A k l e. binds_kept n (Unit {0}) A _ _ k l (ticks_kept n) e;
+    enters = λ n A k l e. binds_kept n (Unit {0}) A (tick limit) (tick limit) k l (ticks_kept n) e;
     binds_ticked = binds_kept;
     frames_ticked = frames_kept;
     generates_ticked = generates_kept;
