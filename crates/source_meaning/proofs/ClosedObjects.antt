@@ -1,8 +1,8 @@
 -- Steps on objects, variables and operators are the same in both runs, so a closed relation holds of them.
 use Rattle.std.proofs.Common.{◌≡◌, refl, ℕ, Bool, nat_lt, nat_le, List, [], ◌∷◌, length, Option, Some, None, ℤ, pos, ◌==◌}
-use Rattle.std.specs.Prelude.{codes, slice_get, slice_set}
+use Rattle.std.specs.Prelude.{codes}
 use Rattle.std.proofs.lemmas.List.{length-set}
-use Rattle.codon_base.specs.Levels.{added}
+use Rattle.codon_base.specs.Levels.{replaced, added}
 use Rattle.codon_base.specs.declared.fault.Fault.{Fault}
 use Rattle.codon_base.specs.declared.value.Ref.{Ref}
 use Rattle.codon_base.specs.declared.value.Value.{Value, Value-F, out-Value}
@@ -27,9 +27,8 @@ use Rattle.source_meaning.proofs.Closed.{Relation, Closed, chain, gives, pick}
 added_levels : (new : Object) (levels : List (List Object)) → length (added levels new) ≡ length levels
 added_levels new levels = length-set levels _ _
 
-replaced_levels : (levels : List (List Object)) (at : Ref) (new : Object) (o : Option (List Object)) → length (objects.replaced_in levels at new o) ≡ length levels
-replaced_levels levels at new (Some there) = length-set levels at.level (slice_set there at.place new)
-replaced_levels levels at new None = refl
+replaced_levels : (new : Object) (at : Ref) (levels : List (List Object)) → length (replaced levels at new) ≡ length levels
+replaced_levels new at levels = length-set levels _ _
 
 module _ {R : Relation} {rules : Rules} {limit more : ℕ} {low high : List Consumer → Task → Run Flow} (c : Closed R rules limit more low high) where
   -- ---- heap and operators
@@ -38,7 +37,7 @@ module _ {R : Relation} {rules : Rules} {limit more : ℕ} {low high : List Cons
   allocate_closed new = chain c (c.looks _ _ _) (λ at. chain c (c.changes_levels _ _ (added_levels new)) (λ _. gives c _))
 
   pub replace_closed : {n : ℕ} (at : Ref) (new : Object) → R n (Unit {0}) (objects.replace at new) (objects.replace at new)
-  replace_closed at new = c.changes_levels _ _ (λ levels. replaced_levels levels at new (slice_get levels at.level))
+  replace_closed at new = c.changes_levels _ _ (replaced_levels new at)
 
   pub settled_closed : {n : ℕ} (m : Made) → R n Value (objects.settled m) (objects.settled m)
   settled_closed (made v) = gives c _

@@ -36,3 +36,12 @@ pub mod Answered
 pub mod Tops
 pub mod Deeper
 pub mod Modules
+pub mod Changed
+pub mod Operated
+pub mod Popped
+pub mod Pieces
+pub mod Places
+pub mod Constructed
+pub mod Apart
+pub mod Ahead
+pub mod Stepped

@@ -1,5 +1,9 @@
 -- Calls of methods by what stands at the address of the object.
-use Rattle.std.proofs.Common.{◌≡◌, ℕ, if◌then◌else◌, List, [], ◌∷◌, Option, Some, None, refl, sym, ap, ◌∙◌}
+use Rattle.std.proofs.Common.{◌≡◌, ℕ, false, if◌then◌else◌, List, [], ◌∷◌, Option, Some, None, refl, sym, ap, ◌∙◌}
+use Rattle.std.specs.Prelude.{slice_get, option_map}
+use Rattle.std.proofs.lemmas.Option.{slice_get-map}
+use Rattle.source_trees.specs.declared.item.Function.{Function}
+use Rattle.source_trees.specs.declared.item.Class.{Class}
 use Rattle.codon_base.specs.declared.value.Ref.{Ref}
 use Rattle.codon_base.specs.declared.value.Value.{Value, out-Value}
 use Rattle.codon_base.specs.declared.object.Object.{Object}
@@ -7,17 +11,38 @@ use Rattle.codon_base.specs.declared.object.Object.TheVariants.{List as Listed, 
 use Rattle.codon_base.specs.Levels.{object_at}
 use Rattle.source_meaning.specs.State.{Spelling, State}
 use Rattle.source_meaning.specs.Outcome.{Outcome, Gives, Stops, Run, and_then, bind, pure, stop, look, wrong, ◌>>=◌}
-use Rattle.source_meaning.specs.Objects.{ref_in, object, instance_in}
+use Rattle.source_meaning.specs.Objects.{one_of, ref_in, object, instance_in}
 use Rattle.source_meaning.specs.Operations.{list_method}
-use Rattle.source_meaning.specs.Program.{Known}
+use Rattle.source_meaning.specs.Program.{Known, function_named, methods_of}
 use Rattle.source_meaning.specs.Bodies.{yields}
 use Rattle.source_meaning.specs.Task.{Setting}
 use Rattle.source_meaning.specs.Calls.{call, method_of}
 use Rattle.source_meaning.specs.Loops.{Iterable}
 use Rattle.source_meaning.specs.Expressions.{method_on, call_method, iterable_on, iterable_method, generated_by, items_of}
 use Rattle.source_meaning.specs.Kinds.{kind_of, found_method}
+use Rattle.source_meaning.specs.Tasks.{program_of}
+use Rattle.source_meaning.specs.Callees.{functions_in}
+use Rattle.source_meaning.specs.declared.prepared.KnownClass.{KnownClass}
+use Rattle.source_meaning.specs.declared.prepared.Prepared.{Prepared}
 use Rattle.source_meaning.specs.declared.methods.Kind.{Kind}
 use Rattle.source_meaning.specs.declared.methods.Kind.TheVariants as kind
+
+-- the method of a class that is known
+abbrev told : Option Function → Run Known
+told o = one_of o >>= λ f. pure (record { function = f; in_prelude = false })
+
+abbrev in_class : Spelling → Option Class → Run Known
+in_class name o = one_of o >>= λ c. told (function_named name (methods_of c))
+
+pub found_known : (p : Prepared) (class : ℕ) (name : Spelling) (c : KnownClass) (s : State) → slice_get p.classes.items class ≡ Some c → found_method (program_of p) class name s ≡ told (function_named name (functions_in c.methods.items)) s
+unfolding bind pure program_of
+found_known p class name c s h =
+    ap (λ (o : Option Class). in_class name o s) (slice_get-map (λ c. c.class.now) p.classes.items class ∙ ap (option_map (λ c. c.class.now)) h)
+    ∙ ap (λ (fs : List Function). told (function_named name fs) s) (sym c.has_methods)
+
+pub found_unknown : (p : Prepared) (class : ℕ) (name : Spelling) (s : State) → slice_get p.classes.items class ≡ None → found_method (program_of p) class name s ≡ wrong s
+unfolding bind program_of stop
+found_unknown p class name s h = ap (λ (o : Option Class). in_class name o s) (slice_get-map (λ c. c.class.now) p.classes.items class ∙ ap (option_map (λ c. c.class.now)) h)
 
 module _ (here : Setting) (v : Value) (at : Ref) (name : Spelling) (given : List Value) (s : State) (is_at : ref_in (out-Value v) s ≡ Gives at s) where
   abbrev there : Option Object

@@ -1,15 +1,20 @@
 -- Loops in place over a cursor, beside the loops of the definitions.
-use Rattle.std.proofs.Common.{◌≡◌, ℕ, zero, suc, ◌+◌, ℤ, pos, negsuc, ◌+ℤ◌, Bool, true, false, if◌then◌else◌, List, Option, Some, None, refl, sym, ap, ◌∙◌}
-use Rattle.codon_base.specs.declared.value.Value.{Value}
+use Rattle.std.proofs.Common.{◌≡◌, ◌≤◌, ◌<◌, ◌≤ℤ◌, ◌<ℤ◌, arith, ℕ, zero, suc, ◌+◌, ℤ, pos, negsuc, ◌+ℤ◌, Bool, true, false, if◌then◌else◌, List, Option, Some, None, refl, sym, ap, ◌∙◌}
+use Rattle.std.specs.Prelude.{nat_lt, int_lt}
+use Rattle.std.proofs.lemmas.Int.{ints}
+use Rattle.std.proofs.lemmas.Bool.{ltb-false}
+use Rattle.std.proofs.lemmas.Bool.Decides.{nat_tests}
+use Rattle.codon_base.specs.Compared.{int_equal}
+use Rattle.codon_base.specs.declared.value.Value.{Value, out-Value}
 use Rattle.codon_base.specs.declared.value.Value.TheVariants as value
-use Rattle.source_meaning.specs.State.{State, Flow, Next}
-use Rattle.source_meaning.specs.Outcome.{Outcome, Gives, Stops, Run, and_then, bind, pure, by_fuel, tick, ◌>>=◌}
-use Rattle.source_meaning.specs.Objects.{found_at}
+use Rattle.source_meaning.specs.State.{State, Stop, Flow, Next}
+use Rattle.source_meaning.specs.Outcome.{Outcome, Gives, Stops, Run, and_then, bind, pure, stop, by_fuel, tick, ◌>>=◌}
+use Rattle.source_meaning.specs.Objects.{int_in, found_at}
 use Rattle.source_meaning.specs.Task.{Consumer, Setting}
 use Rattle.source_meaning.specs.Loops as loops
-use Rattle.source_meaning.specs.Loops.{turns, shown, after_turn, ticked, item_found, item_next, is_before, number_next}
+use Rattle.source_meaning.specs.Loops.{turns, shown, after_turn, ticked, item_found, item_next, is_before, numbers, number_next}
 use Rattle.source_meaning.specs.Meaning.{turn_of}
-use Rattle.source_meaning.specs.Cursors.{next_by, item_or_end, in_range, advanced}
+use Rattle.source_meaning.specs.Cursors.{next_by, item_or_end, in_range, advanced, begun, begun_by, IsWithin}
 use Rattle.source_meaning.specs.Steps.{looped, turns_from}
 use Rattle.source_meaning.specs.declared.iterable.Cursor.{Cursor}
 use Rattle.source_meaning.specs.declared.iterable.Cursor.TheVariants as cursor
@@ -82,3 +87,74 @@ module _ (here : Setting) (turn : Value → Run Flow) (stop step : ℤ) where
 
     pub numbers_loop : (z : ℤ) (s : State) → Fine z → in_range z ≡ true → loops.loop here.limit (number_next here.limit step stop) turn z s ≡ turns_from here turn (cursor.Number z stop step) s
     numbers_loop z s fine within = (λ i. by_fuel here.limit (λ left. numbers_turns (suc left) z fine i) s) ∙ ap (λ b. turns_from here turn (from b z) s) within
+
+-- ---- ranges of int
+
+not_less : (a b : ℤ) → b ≤ℤ a → int_lt a b ≡ false
+not_less a b h = grind (arith, ints)
+
+past_up : (z : ℤ) → negsuc 9223372036854775807 ≤ℤ z → in_range z ≡ false → pos 9223372036854775808 ≤ℤ z
+past_up (pos n) h e = let k = ltb-false n 9223372036854775808 e in omega (arith, ints)
+past_up (negsuc n) h e = let k = ltb-false n 9223372036854775808 e in omega (arith, ints)
+
+past_down : (z : ℤ) → z <ℤ pos 9223372036854775808 → in_range z ≡ false → z <ℤ negsuc 9223372036854775807
+past_down (pos n) h e = let k = ltb-false n 9223372036854775808 e in omega (arith, ints)
+past_down (negsuc n) h e = let k = ltb-false n 9223372036854775808 e in omega (arith, ints)
+
+ends_up : (k : ℕ) (stop z : ℤ) → stop <ℤ pos 9223372036854775808 → negsuc 9223372036854775807 ≤ℤ z → in_range z ≡ false → is_before (pos k) stop z ≡ false
+ends_up k stop z s h e = let past = past_up z h e in not_less z stop (omega (arith, ints))
+
+ends_down : (k : ℕ) (stop z : ℤ) → negsuc 9223372036854775807 ≤ℤ stop → z <ℤ pos 9223372036854775808 → in_range z ≡ false → is_before (negsuc k) stop z ≡ false
+ends_down k stop z s h e = let past = past_down z h e in not_less stop z (omega (arith, ints))
+
+grows_up : (k : ℕ) (z : ℤ) → negsuc 9223372036854775807 ≤ℤ z → negsuc 9223372036854775807 ≤ℤ (z +ℤ pos k)
+grows_up k z h = omega (arith, ints)
+
+grows_down : (k : ℕ) (z : ℤ) → z <ℤ pos 9223372036854775808 → (z +ℤ negsuc k) <ℤ pos 9223372036854775808
+grows_down k z h = omega (arith, ints)
+
+is_in_range : (z : ℤ) → negsuc 9223372036854775807 ≤ℤ z → z <ℤ pos 9223372036854775808 → in_range z ≡ true
+is_in_range (pos n) a b = grind (arith, nat_tests, ints)
+is_in_range (negsuc n) a b = grind (arith, nat_tests, ints)
+
+module _ (here : Setting) (turn : Value → Run Flow) where
+  -- the loop of the definitions from where it has begun
+  abbrev meant_from : Cursor → Run Flow
+  meant_from cursor.Ended = turns_from here turn cursor.Ended
+  meant_from (cursor.Number at stop step) = loops.loop here.limit (number_next here.limit step stop) turn at
+  meant_from (cursor.Item container place) = turns_from here turn (cursor.Item container place)
+
+  is_turns : (from : Cursor) (s : State) → IsWithin from → meant_from from s ≡ turns_from here turn from s
+  is_turns cursor.Ended s h = refl
+  is_turns (cursor.Item container place) s h = refl
+  is_turns (cursor.Number at stop (pos k)) s h =
+      numbers_loop here turn stop (pos k) (λ z. negsuc 9223372036854775807 ≤ℤ z) (λ z. ends_up k stop z h.3) (grows_up k) at s h.0 (is_in_range at h.0 h.1)
+  is_turns (cursor.Number at stop (negsuc k)) s h =
+      numbers_loop here turn stop (negsuc k) (λ z. z <ℤ pos 9223372036854775808) (λ z. ends_down k stop z h.2) (grows_down k) at s h.1 (is_in_range at h.0 h.1)
+
+  from_step : (at stop step : ℤ) (s : State) → numbers here at stop step turn s ≡ and_then (begun_by at stop step s) meant_from
+  unfolding bind pure stop
+  from_step at stop (pos zero) s = refl
+  from_step at stop (pos (suc n)) s = refl
+  from_step at stop (negsuc n) s = refl
+
+after_both : {A B C : Type 0} (o : Outcome A) (f : A → Run B) (g : B → Run C) (h : A → Run C) → ((a : A) (s : State) → h a s ≡ and_then (f a s) g) → and_then o h ≡ and_then (and_then o f) g
+after_both (Gives a s) f g h e = e a s
+after_both (Stops why s) f g h e = refl
+
+module _ (here : Setting) (consumers : List Consumer) (consumer : Consumer) (start stop step : Value) where
+  abbrev does : Value → Run Flow
+  does = turn_of here consumers consumer
+
+  begins : (s : State) → looped here consumers (loops.Numbers start stop step) consumer s ≡ and_then (begun start stop step s) (meant_from here does)
+  unfolding bind
+  begins s =
+      after_both (int_in (out-Value start) s) (λ a. int_in (out-Value stop) >>= λ b. int_in (out-Value step) >>= λ c. begun_by a b c) (meant_from here does) (λ a. int_in (out-Value stop) >>= λ b. int_in (out-Value step) >>= λ c. numbers here a b c does) (λ a t.
+      after_both (int_in (out-Value stop) t) (λ b. int_in (out-Value step) >>= λ c. begun_by a b c) (meant_from here does) (λ b. int_in (out-Value step) >>= λ c. numbers here a b c does) (λ b u.
+      after_both (int_in (out-Value step) u) (λ c. begun_by a b c) (meant_from here does) (λ c. numbers here a b c does) (λ c w. from_step here does a b c w)))
+
+  pub over_numbers : (s t : State) (from : Cursor) → begun start stop step s ≡ Gives from t → IsWithin from → looped here consumers (loops.Numbers start stop step) consumer s ≡ turns_from here does from t
+  over_numbers s t from e h = begins s ∙ ap (λ (o : Outcome Cursor). and_then o (meant_from here does)) e ∙ is_turns here does from t h
+
+  pub over_none : (s t : State) (why : Stop) → begun start stop step s ≡ Stops why t → looped here consumers (loops.Numbers start stop step) consumer s ≡ Stops why t
+  over_none s t why e = begins s ∙ ap (λ (o : Outcome Cursor). and_then o (meant_from here does)) e

@@ -1,5 +1,5 @@
 -- The turns of loops in place, one after another, as the interpreter makes them.
-use Rattle.std.specs.Prelude.{ℕ, ◌+◌, Bool, if◌then◌else◌, Option, Some, None, ℤ, pos, negsuc, ◌+ℤ◌, nat_lt, codes}
+use Rattle.std.specs.Prelude.{ℕ, ◌+◌, ◌≤ℤ◌, ◌<ℤ◌, Bool, if◌then◌else◌, Option, Some, None, ℤ, pos, negsuc, ◌+ℤ◌, nat_lt, codes}
 use Rattle.codon_base.specs.declared.fault.FaultKind.TheVariants as kind
 use Rattle.codon_base.specs.declared.value.Value.{Value, out-Value}
 use Rattle.codon_base.specs.declared.value.Value.TheVariants as value
@@ -33,3 +33,9 @@ begun_by at stop step = if int_equal step (pos 0) then fault kind.Value (codes "
 
 abbrev pub begun : Value → Value → Value → Run Cursor
 begun start stop step = int_in (out-Value start) >>= λ a. int_in (out-Value stop) >>= λ b. int_in (out-Value step) >>= λ c. begun_by a b c
+
+-- the number and the stop of a cursor are in the range of int
+abbrev pub IsWithin : Cursor → Type 0
+IsWithin cursor.Ended = Unit {0}
+IsWithin (cursor.Number at stop step) = (negsuc 9223372036854775807 ≤ℤ at) × (at <ℤ pos 9223372036854775808) × (negsuc 9223372036854775807 ≤ℤ stop) × (stop <ℤ pos 9223372036854775808)
+IsWithin (cursor.Item container place) = Unit {0}

@@ -38,3 +38,4 @@ pub mod Sights
 pub mod Stages
 pub mod Regions
 pub mod Plain
+pub mod Entered

@@ -1,7 +1,10 @@
 -- What the interpreter's loops over expressions compute.
-use Rattle.std.specs.Prelude.{true, false, if◌then◌else◌, List, [], ◌∷◌, codes}
-use Rattle.codon_base.specs.declared.value.Value.{Value}
+use Rattle.std.specs.Prelude.{true, false, not, if◌then◌else◌, List, [], ◌∷◌, codes}
+use Rattle.codon_base.specs.declared.value.Value.{Value, out-Value}
 use Rattle.codon_base.specs.declared.value.Value.TheVariants as value
+use Rattle.codon_base.specs.declared.object.Object.TheVariants.{List as Listed}
+use Rattle.source_trees.specs.declared.operator.UnaryOp.{UnaryOp}
+use Rattle.source_trees.specs.declared.operator.BinaryOp.{BinaryOp}
 use Rattle.source_trees.specs.declared.expression.Expr.{Expr}
 use Rattle.source_meaning.specs.Outcome.{Run, ◌>>=◌, pure, wrong}
 use Rattle.source_meaning.specs.Program.{Scope}
@@ -10,12 +13,12 @@ use Rattle.std.specs.Prelude.{Option, Some, None}
 use Rattle.source_trees.specs.declared.expression.Comparison.{Comparison}
 use Rattle.source_trees.specs.declared.statement.LoopNames.{LoopNames}
 use Rattle.source_meaning.specs.Bodies.{yields, loop_names}
-use Rattle.source_meaning.specs.Objects.{operate, truth}
-use Rattle.source_meaning.specs.Operations.{compared_made, builtin}
+use Rattle.source_meaning.specs.Objects.{operate, truth, allocate, item_at, slice, field}
+use Rattle.source_meaning.specs.Operations.{binary, unary_made, compared_made, builtin}
 use Rattle.source_meaning.specs.Program.{Builtin, ToList, Range, Callee, Defined, Constructor, Standard, Variable, Unknown, callee, with_locals}
 use Rattle.source_meaning.specs.Calls.{call, construct}
 use Rattle.source_meaning.specs.Loops.{Iterable, Generated}
-use Rattle.source_meaning.specs.Expressions.{expr, exprs, condition, iterable, if_holds, gathered, comprehended, not_set, range_of, items_of}
+use Rattle.source_meaning.specs.Expressions.{expr, exprs, condition, iterable, call_method, if_holds, gathered, comprehended, not_set, range_of, items_of}
 use Rattle.source_meaning.specs.Meaning.{condition_of}
 use Rattle.source_meaning.specs.Objects.{if_set}
 use Rattle.source_meaning.specs.State.{Spelling}
@@ -39,6 +42,38 @@ module _ (here : Setting) (scope : Scope) where
   bound None = pure value.Unit
   bound (Some e) = expr here scope e
 
+  -- ---- expressions by their forms
+
+  abbrev pub tuple : List Expr → Run Value
+  tuple parts = exprs here scope parts >>= λ vs. pure (value.Tuple vs)
+
+  abbrev pub list : List Expr → Run Value
+  list parts = exprs here scope parts >>= λ vs. allocate (Listed vs)
+
+  abbrev pub conditional : Expr → Expr → Expr → Run Value
+  conditional first by other = condition here scope by >>= λ t. if t then expr here scope first else expr here scope other
+
+  abbrev pub negated : Expr → Run Value
+  negated e = condition here scope e >>= λ t. pure (value.Bool (not t))
+
+  abbrev pub unary : UnaryOp → Expr → Run Value
+  unary by e = expr here scope e >>= λ v. operate here.rules (λ sight. unary_made by (out-Value v))
+
+  abbrev pub binary_of : BinaryOp → Expr → Expr → Run Value
+  binary_of by left right = expr here scope left >>= λ v. expr here scope right >>= λ w. binary here.rules by v w
+
+  abbrev pub index : Expr → Expr → Run Value
+  index container at = expr here scope container >>= λ v. expr here scope at >>= λ w. item_at here.rules v w
+
+  abbrev pub field_of : Expr → Spelling → Run Value
+  field_of object name = expr here scope object >>= λ v. field here.program v name
+
+  abbrev pub method_called : Expr → Spelling → List Expr → Run Value
+  method_called object name parts = expr here scope object >>= λ v. exprs here scope parts >>= call_method here v name
+
+  abbrev pub sliced : Expr → Option Expr → Option Expr → Run Value
+  sliced part from to = expr here scope part >>= λ v. bound from >>= λ start. bound to >>= λ stop. slice here.rules (out-Value v) start stop
+
   -- the right operand of a comparison, where it holds
   abbrev pub compares : Comparison → Value → Run (Option Value)
   compares c v = expr here scope c.right >>= λ w. operate here.rules (compared_made c.comparator v w) >>= truth here.rules >>= λ holds. pure (if holds then Some w else None)
@@ -46,6 +81,9 @@ module _ (here : Setting) (scope : Scope) where
   abbrev pub chained : List Comparison → Value → Run Value
   chained [] v = pure (value.Bool true)
   chained (c ∷ more) v = compares c v >>= λ o. if_holds here o (chained more)
+
+  abbrev pub comparison : Expr → List Comparison → Run Value
+  comparison first others = expr here scope first >>= chained others
 
   -- ---- calls
 
@@ -81,3 +119,6 @@ module _ (here : Setting) (scope : Scope) where
   abbrev pub comprehended_of : LoopNames → Iterable → Option Expr → Expr → Run Value
   comprehended_of names goes_over kept item =
       let inner = with_locals (loop_names names) scope in comprehended here inner names goes_over kept (condition_of here inner kept) item (expr here inner item)
+
+  abbrev pub comprehension : LoopNames → Expr → Option Expr → Expr → Run Value
+  comprehension names goes kept item = iterable here scope goes >>= λ goes_over. comprehended_of names goes_over kept item

@@ -7,7 +7,7 @@ use Rattle.codon_base.specs.declared.value.Value.{Value, Value-F, out-Value}
 use Rattle.codon_base.specs.declared.value.Value.TheVariants as value
 use Rattle.codon_base.specs.declared.object.Object.{Object}
 use Rattle.codon_base.specs.declared.object.Object.TheVariants.{List as Listed, Instance}
-use Rattle.codon_base.specs.Levels.{object_at, added, next_address}
+use Rattle.codon_base.specs.Levels.{object_at, replaced, added, next_address}
 use Rattle.codon_base.specs.Sequences.{place_of, bound_of, sliced}
 use Rattle.codon_base.specs.Operators.{Made, made, new_list, fault as faulted, Sight, size_limit, truth_of}
 use Rattle.source_meaning.specs.State.{Spelling, State, Faulted}
@@ -18,19 +18,11 @@ use Rattle.source_meaning.specs.Task.{Access, Place, Whole, Field, Rules}
 
 -- ---- the heap
 
--- the levels with an object in the place of another
-abbrev pub replaced_in : List (List Object) → Ref → Object → Option (List Object) → List (List Object)
-replaced_in levels at object (Some objects) = slice_set levels at.level (slice_set objects at.place object)
-replaced_in levels at object None = levels
-
-abbrev pub with_object : Ref → Object → List (List Object) → List (List Object)
-with_object at object levels = replaced_in levels at object (slice_get levels at.level)
-
 abbrev pub object : Ref → Run (Option Object)
 object at = look (λ s. object_at s.shared.levels at)
 
 abbrev pub replace : Ref → Object → Run (Unit {0})
-replace at new = change_levels (with_object at new)
+replace at new = change_levels (λ levels. replaced levels at new)
 
 -- a new object on the last level
 abbrev pub allocate : Object → Run Value

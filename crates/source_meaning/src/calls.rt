@@ -71,8 +71,17 @@ impl<'m, F: Fn(Global, &Prepared<'_>, u64, u32, &mut State, &[Consumer<'_>], Tas
     {
         let fields = unset_fields(self.alloc, c.class.fields.as_slice())?;
         let new = allocate(state, Object::Instance { class: c.number, fields })?;
-        let given = with_first(self.alloc, new.try_clone(self.alloc)?, given)?;
-        self.call(state, Called { known, in_prelude: false }, given)?;
+        self.initialize(state, known, given, new)
+    }
+
+    /// Runs the `__init__` of a new instance.
+    fn initialize(&self, state: &mut State, known: &Known<'_>, given: Values, new: Value) -> Result<Value, Stop>
+        requires { Nests self.now.program.now self.now.limit self.now.depth (F.pre self.now.low) (F.post self.now.low) }
+        ensures { Tells (spec.initialize (here self.now.program.now self.now.limit self.now.depth) known.now.function.now given new (seen state.old)) result state.new }
+    {
+        let first = new.try_clone(self.alloc)?;
+        let given = with_first(self.alloc, first, given)?;
+        let _ = self.call(state, Called { known, in_prelude: false }, given)?;
         Ok(new)
     }
 }

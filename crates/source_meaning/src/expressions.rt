@@ -1,13 +1,16 @@
 #![tactic(auto, unfolding(crate::specs::Outcome::bind, crate::specs::Outcome::pure, crate::specs::Outcome::stop, crate::specs::Outcome::framed, crate::specs::Outcome::look), using(crate::proofs::Equations::expr_rules))]
 
 ghost use Rattle.std.specs.Prelude.{[]};
+ghost use Rattle.codon_base.specs.declared.value.Value.TheVariants as value;
+ghost use Rattle.source_meaning.specs.Outcome.{pure};
 ghost use Rattle.source_meaning.specs.Expressions as spec;
+ghost use Rattle.source_meaning.specs.Lists as lists;
 ghost use Rattle.source_meaning.specs.Lists.{some_true, all_true, bound, chained, compares, called, standard, standard_goes, called_iterable, comprehended_of};
 ghost use Rattle.source_meaning.specs.Callees.{builtin_of};
 ghost use Rattle.source_meaning.specs.Meaning.{condition_of, turn_of};
 ghost use Rattle.source_meaning.specs.Program.{ToList};
 ghost use Rattle.source_meaning.specs.Scopes.{scope_of};
-ghost use Rattle.source_meaning.specs.Seen.{seen, Tells, TellsBy, TellsFlow};
+ghost use Rattle.source_meaning.specs.Seen.{seen, Tells, TellsAt, TellsBy, TellsFlow};
 ghost use Rattle.source_meaning.specs.Steps.{iterable_of, looped, turns_from};
 ghost use Rattle.source_meaning.specs.Task.{Comprehension};
 ghost use Rattle.source_meaning.specs.Tasks.{Nests, here};
@@ -17,6 +20,7 @@ use crate::cursor::{begun, next};
 use crate::flow::{End, Flow, ended, goes_on};
 use crate::frames::swap_names;
 use crate::iterable::{Cursor, Iterable};
+use crate::loops::is_within;
 use crate::objects::{allocate, field, item_at, slice};
 use crate::operations::{binary, builtin, compared, truth, unary};
 use crate::prepared::Prepared;
@@ -26,10 +30,17 @@ use crate::scope::{Inner, Scope, within};
 use crate::state::{State, Stop};
 use crate::task::{Consumer, Task};
 use crate::variables::{fault, left, read_name, set_loop_names, wrong};
-use codon_base::{FaultKind, Object, Spelling, Value, Values};
-use source_trees::{Comparison, Expr, LoopNames};
+use codon_base::{FaultKind, Object, Spelling, Text, Value, Values};
+use source_trees::{BinaryOp, Comparison, Expr, LoopNames, UnaryOp};
 use sqlite_items::{Boxed, Items};
 use std::alloc::Global;
+
+fn text_value(alloc: Global, text: &Text) -> Result<Value, Stop>
+    ensures { (s : _) → TellsAt (pure (value.Text text.now) s) result s }
+{
+    let text = text.try_clone(alloc)?;
+    Ok(Value::Text(text))
+}
 
 impl<'m, F: Fn(Global, &Prepared<'_>, u64, u32, &mut State, &[Consumer<'_>], Task<'_>) -> Result<Flow, Stop>> Runner<'m, F> {
     /// What an expression gives.
@@ -41,68 +52,155 @@ impl<'m, F: Fn(Global, &Prepared<'_>, u64, u32, &mut State, &[Consumer<'_>], Tas
         match e {
             Expr::Name(_, name) => read_name(self.alloc, state, scope, name),
             Expr::Number(_, number) => Ok(Value::Int(*number)),
-            Expr::Text(_, text) => Ok(Value::Text(text.try_clone(self.alloc)?)),
+            Expr::Text(_, text) => text_value(self.alloc, text),
             Expr::True(_) => Ok(Value::Bool(true)),
             Expr::False(_) => Ok(Value::Bool(false)),
             Expr::None(_) => Ok(Value::Unit),
             Expr::Bracketed(_, inner) => self.expr(state, scope, inner.get()),
-            Expr::Tuple(_, _, items) => Ok(Value::Tuple(self.exprs(state, scope, items.as_slice())?)),
-            Expr::Conditional(_, first, condition, other) => {
-                if self.condition(state, scope, condition.get())? {
-                    self.expr(state, scope, first.get())
-                } else {
-                    self.expr(state, scope, other.get())
-                }
-            }
+            Expr::Tuple(_, _, items) => self.tuple(state, scope, items.as_slice()),
+            Expr::List(_, items) => self.list(state, scope, items.as_slice()),
+            Expr::Conditional(_, first, condition, other) => self.conditional(state, scope, first.get(), condition.get(), other.get()),
             Expr::Or(_, operands) => self.some_true(state, scope, operands.as_slice()),
             Expr::And(_, operands) => self.all_true(state, scope, operands.as_slice()),
-            Expr::Not(_, operand) => {
-                let truth = self.condition(state, scope, operand.get())?;
-                Ok(Value::Bool(!truth))
-            }
-            Expr::List(_, items) => {
-                let items = self.exprs(state, scope, items.as_slice())?;
-                allocate(state, Object::List(items))
-            }
-            Expr::Unary(_, by, operand) => {
-                let v = self.expr(state, scope, operand.get())?;
-                unary(self.alloc, state, *by, &v)
-            }
-            Expr::Binary(_, by, left, right) => {
-                let v = self.expr(state, scope, left.get())?;
-                let w = self.expr(state, scope, right.get())?;
-                binary(self.alloc, state, *by, &v, &w)
-            }
-            Expr::Index(_, container, index) => {
-                let v = self.expr(state, scope, container.get())?;
-                let w = self.expr(state, scope, index.get())?;
-                item_at(self.alloc, state, &v, &w)
-            }
-            Expr::Field(_, object, name) => {
-                let v = self.expr(state, scope, object.get())?;
-                field(self.alloc, state, self.program, &v, name)
-            }
-            Expr::Comprehension(_, item, names, iterable, condition) => {
-                let goes_over = self.iterable(state, scope, iterable.get())?;
-                self.comprehension(state, scope, goes_over, names, item, condition)
-            }
-            Expr::Compare(_, first, others) => {
-                let v = self.expr(state, scope, first.get())?;
-                self.chain(state, scope, others.as_slice(), v)
-            }
+            Expr::Not(_, operand) => self.negated(state, scope, operand.get()),
+            Expr::Unary(_, by, operand) => self.unary(state, scope, *by, operand.get()),
+            Expr::Binary(_, by, left, right) => self.binary(state, scope, *by, left.get(), right.get()),
+            Expr::Index(_, container, index) => self.index(state, scope, container.get(), index.get()),
+            Expr::Field(_, object, name) => self.field(state, scope, object.get(), name),
+            Expr::Comprehension(_, item, names, iterable, condition) => self.comprehended(state, scope, iterable.get(), names, item, condition),
+            Expr::Compare(_, first, others) => self.comparison(state, scope, first.get(), others.as_slice()),
             Expr::Call(_, name, parts) => self.called(state, scope, &name.spelling, parts),
-            Expr::MethodCall(_, _, object, name, parts) => {
-                let v = self.expr(state, scope, object.get())?;
-                let given = self.exprs(state, scope, parts.as_slice())?;
-                self.call_method(state, v, name, given)
-            }
-            Expr::Slice(_, part, from, to) => {
-                let v = self.expr(state, scope, part.get())?;
-                let start = self.bound(state, scope, from)?;
-                let stop = self.bound(state, scope, to)?;
-                slice(self.alloc, state, &v, &start, &stop)
-            }
+            Expr::MethodCall(_, _, object, name, parts) => self.method_called(state, scope, object.get(), name, parts.as_slice()),
+            Expr::Slice(_, part, from, to) => self.sliced(state, scope, part.get(), from, to),
         }
+    }
+
+    /// `(a, b)`.
+    #[cycle(expression)]
+    fn tuple(&self, state: &mut State, scope: &Scope<'_>, items: &[Expr]) -> Result<Value, Stop>
+        requires { Nests self.now.program.now self.now.limit self.now.depth (F.pre self.now.low) (F.post self.now.low) }
+        ensures { Tells (lists.tuple (here self.now.program.now self.now.limit self.now.depth) (scope_of scope.now) items.now (seen state.old)) result state.new }
+    {
+        let items = self.exprs(state, scope, items)?;
+        Ok(Value::Tuple(items))
+    }
+
+    /// `[a, b]`.
+    #[cycle(expression)]
+    fn list(&self, state: &mut State, scope: &Scope<'_>, items: &[Expr]) -> Result<Value, Stop>
+        requires { Nests self.now.program.now self.now.limit self.now.depth (F.pre self.now.low) (F.post self.now.low) }
+        ensures { Tells (lists.list (here self.now.program.now self.now.limit self.now.depth) (scope_of scope.now) items.now (seen state.old)) result state.new }
+    {
+        let items = self.exprs(state, scope, items)?;
+        allocate(state, Object::List(items))
+    }
+
+    /// `first if condition else other`.
+    #[cycle(expression)]
+    fn conditional(&self, state: &mut State, scope: &Scope<'_>, first: &Expr, condition: &Expr, other: &Expr) -> Result<Value, Stop>
+        requires { Nests self.now.program.now self.now.limit self.now.depth (F.pre self.now.low) (F.post self.now.low) }
+        ensures { Tells (lists.conditional (here self.now.program.now self.now.limit self.now.depth) (scope_of scope.now) first.now condition.now other.now (seen state.old)) result state.new }
+    {
+        if self.condition(state, scope, condition)? {
+            self.expr(state, scope, first)
+        } else {
+            self.expr(state, scope, other)
+        }
+    }
+
+    /// `not operand`.
+    #[cycle(expression)]
+    fn negated(&self, state: &mut State, scope: &Scope<'_>, operand: &Expr) -> Result<Value, Stop>
+        requires { Nests self.now.program.now self.now.limit self.now.depth (F.pre self.now.low) (F.post self.now.low) }
+        ensures { Tells (lists.negated (here self.now.program.now self.now.limit self.now.depth) (scope_of scope.now) operand.now (seen state.old)) result state.new }
+    {
+        let truth = self.condition(state, scope, operand)?;
+        Ok(Value::Bool(!truth))
+    }
+
+    /// `by operand`.
+    #[cycle(expression)]
+    fn unary(&self, state: &mut State, scope: &Scope<'_>, by: UnaryOp, operand: &Expr) -> Result<Value, Stop>
+        requires { Nests self.now.program.now self.now.limit self.now.depth (F.pre self.now.low) (F.post self.now.low) }
+        ensures { Tells (lists.unary (here self.now.program.now self.now.limit self.now.depth) (scope_of scope.now) by operand.now (seen state.old)) result state.new }
+    {
+        let v = self.expr(state, scope, operand)?;
+        unary(self.alloc, state, by, &v)
+    }
+
+    /// `left by right`.
+    #[cycle(expression)]
+    fn binary(&self, state: &mut State, scope: &Scope<'_>, by: BinaryOp, left: &Expr, right: &Expr) -> Result<Value, Stop>
+        requires { Nests self.now.program.now self.now.limit self.now.depth (F.pre self.now.low) (F.post self.now.low) }
+        ensures { Tells (lists.binary_of (here self.now.program.now self.now.limit self.now.depth) (scope_of scope.now) by left.now right.now (seen state.old)) result state.new }
+    {
+        let v = self.expr(state, scope, left)?;
+        let w = self.expr(state, scope, right)?;
+        binary(self.alloc, state, by, &v, &w)
+    }
+
+    /// `container[index]`.
+    #[cycle(expression)]
+    fn index(&self, state: &mut State, scope: &Scope<'_>, container: &Expr, index: &Expr) -> Result<Value, Stop>
+        requires { Nests self.now.program.now self.now.limit self.now.depth (F.pre self.now.low) (F.post self.now.low) }
+        ensures { Tells (lists.index (here self.now.program.now self.now.limit self.now.depth) (scope_of scope.now) container.now index.now (seen state.old)) result state.new }
+    {
+        let v = self.expr(state, scope, container)?;
+        let w = self.expr(state, scope, index)?;
+        item_at(self.alloc, state, &v, &w)
+    }
+
+    /// `object.name`.
+    #[cycle(expression)]
+    fn field(&self, state: &mut State, scope: &Scope<'_>, object: &Expr, name: &Spelling) -> Result<Value, Stop>
+        requires { Nests self.now.program.now self.now.limit self.now.depth (F.pre self.now.low) (F.post self.now.low) }
+        ensures { Tells (lists.field_of (here self.now.program.now self.now.limit self.now.depth) (scope_of scope.now) object.now name.now (seen state.old)) result state.new }
+    {
+        let v = self.expr(state, scope, object)?;
+        field(self.alloc, state, self.program, &v, name)
+    }
+
+    /// `[item for names in iterable if condition]`.
+    #[cycle(expression)]
+    fn comprehended(&self, state: &mut State, scope: &Scope<'_>, iterable: &Expr, names: &LoopNames, item: &Boxed<Expr>, condition: &Option<Boxed<Expr>>) -> Result<Value, Stop>
+        requires { Nests self.now.program.now self.now.limit self.now.depth (F.pre self.now.low) (F.post self.now.low) }
+        ensures { Tells (lists.comprehension (here self.now.program.now self.now.limit self.now.depth) (scope_of scope.now) names.now iterable.now condition.now item.now (seen state.old)) result state.new }
+    {
+        let goes_over = self.iterable(state, scope, iterable)?;
+        self.comprehension(state, scope, goes_over, names, item, condition)
+    }
+
+    /// A chain of comparisons.
+    #[cycle(expression)]
+    fn comparison(&self, state: &mut State, scope: &Scope<'_>, first: &Expr, others: &[Comparison]) -> Result<Value, Stop>
+        requires { Nests self.now.program.now self.now.limit self.now.depth (F.pre self.now.low) (F.post self.now.low) }
+        ensures { Tells (lists.comparison (here self.now.program.now self.now.limit self.now.depth) (scope_of scope.now) first.now others.now (seen state.old)) result state.new }
+    {
+        let v = self.expr(state, scope, first)?;
+        self.chain(state, scope, others, v)
+    }
+
+    /// `object.name(parts)`.
+    #[cycle(expression)]
+    fn method_called(&self, state: &mut State, scope: &Scope<'_>, object: &Expr, name: &Spelling, parts: &[Expr]) -> Result<Value, Stop>
+        requires { Nests self.now.program.now self.now.limit self.now.depth (F.pre self.now.low) (F.post self.now.low) }
+        ensures { Tells (lists.method_called (here self.now.program.now self.now.limit self.now.depth) (scope_of scope.now) object.now name.now parts.now (seen state.old)) result state.new }
+    {
+        let v = self.expr(state, scope, object)?;
+        let given = self.exprs(state, scope, parts)?;
+        self.call_method(state, v, name, given)
+    }
+
+    /// `part[from:to]`.
+    #[cycle(expression)]
+    fn sliced(&self, state: &mut State, scope: &Scope<'_>, part: &Expr, from: &Option<Boxed<Expr>>, to: &Option<Boxed<Expr>>) -> Result<Value, Stop>
+        requires { Nests self.now.program.now self.now.limit self.now.depth (F.pre self.now.low) (F.post self.now.low) }
+        ensures { Tells (lists.sliced (here self.now.program.now self.now.limit self.now.depth) (scope_of scope.now) part.now from.now to.now (seen state.old)) result state.new }
+    {
+        let v = self.expr(state, scope, part)?;
+        let start = self.bound(state, scope, from)?;
+        let stop = self.bound(state, scope, to)?;
+        slice(self.alloc, state, &v, &start, &stop)
     }
 
     /// What expressions give, in order.
@@ -351,6 +449,7 @@ impl<'m, F: Fn(Global, &Prepared<'_>, u64, u32, &mut State, &[Consumer<'_>], Tas
             Iterable::Items(container) => self.gather_turns(state, inner, Cursor::Item(container, 0), names, item, condition, list),
             Iterable::Numbers(start, stop, step) => {
                 let cursor = begun(self.alloc, state, &start, &stop, &step)?;
+                is_within(&cursor);
                 self.gather_turns(state, inner, cursor, names, item, condition, list)
             }
         }
@@ -386,10 +485,10 @@ impl<'m, F: Fn(Global, &Prepared<'_>, u64, u32, &mut State, &[Consumer<'_>], Tas
         ensures { TellsFlow (turn_of (here self.now.program.now self.now.limit self.now.depth) [] (Comprehension (scope_of inner.now) names.now condition.now item.now list.now) v (seen state.old)) result state.new }
     {
         set_loop_names(self.alloc, state, inner, names, v)?;
-        if self.kept(state, inner, condition)? {
-            let v = self.expr(state, inner, item.get())?;
-            self.append_to(state, list, v)?;
+        if !self.kept(state, inner, condition)? {
+            return Ok(ended(End::Next));
         }
-        Ok(ended(End::Next))
+        let v = self.expr(state, inner, item.get())?;
+        self.append_to(state, list, v)
     }
 }

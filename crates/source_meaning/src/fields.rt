@@ -1,10 +1,13 @@
 #![tactic(auto, unfolding(crate::specs::Outcome::bind, crate::specs::Outcome::pure, crate::specs::Outcome::stop))]
 
-ghost use Rattle.std.specs.Prelude.{◌≡◌, codes};
-ghost use Rattle.codon_base.specs.declared.value.Value.{out-Value};
-ghost use Rattle.codon_base.specs.declared.fault.FaultKind.TheVariants as kind;
+ghost use Rattle.std.specs.Prelude.{◌≡◌, IfOk, Some, codes, slice_get};
+ghost use Rattle.codon_base.specs.declared.object.Object.TheVariants.{Instance};
+ghost use Rattle.codon_base.specs.Levels.{object_at};
+ghost use Rattle.source_meaning.specs.Outcome.{bind};
 ghost use Rattle.source_meaning.specs.Objects as spec;
 ghost use Rattle.source_meaning.specs.Program.{place_named};
+ghost use Rattle.source_meaning.specs.State.{same};
+ghost use Rattle.std.specs.List.{position};
 ghost use Rattle.source_meaning.specs.Iterations.{in_place};
 ghost use Rattle.source_meaning.specs.Seen.{seen, Tells, TellsAt, TellsBy};
 ghost use Rattle.source_meaning.specs.Sights.{instanced_of};
@@ -27,12 +30,14 @@ pub(crate) struct Instanced<'s> {
 }
 
 /// The instance at an address.
+#[tactic(auto, unfolding(crate::specs::Outcome::bind, crate::specs::Outcome::pure, crate::specs::Outcome::stop, crate::specs::Outcome::look, crate::specs::Seen::seen))]
 pub(crate) fn instance_at<'s>(
     alloc: Global,
     state: &'s State,
     at: Ref,
 ) -> Result<Instanced<'s>, Stop>
-    ensures { TellsBy instanced_of (spec.instance_at at (seen state.now)) result state.now }
+    ensures instance { TellsBy instanced_of (spec.instance_at at (seen state.now)) result state.now }
+    ensures found { IfOk result (λ instance. object_at (seen state.now).shared.levels at ≡ Some (Instance instance.class instance.fields.now)) }
 {
     match state.store.heap.get(at) {
         Some(Object::Instance { class, fields }) => Ok(Instanced {
@@ -44,13 +49,22 @@ pub(crate) fn instance_at<'s>(
 }
 
 /// The place of a name among others.
+#[tactic(auto, using(crate::proofs::Places::place_named_is))]
 fn place_named(name: &Spelling, names: &[Spelling]) -> Option<usize>
     ensures { result ≡ place_named name.now names.now }
+{
+    first_named(name, names)
+}
+
+/// The place of the first name that is spelled so.
+fn first_named(name: &Spelling, names: &[Spelling]) -> Option<usize>
+    ensures { result ≡ position (same name.now) names.now }
 {
     names.iter().position(|other| same(name, other))
 }
 
 /// The place of a field in the instances of a class.
+#[tactic(auto, unfolding(crate::specs::Outcome::bind, crate::specs::Outcome::pure, crate::specs::Outcome::stop, crate::specs::Tasks::program_of))]
 pub(crate) fn field_place(
     alloc: Global,
     program: &Prepared<'_>,
@@ -69,7 +83,9 @@ pub(crate) fn field_place(
 }
 
 /// The field at a place, which is a fault where it was never set.
-pub(crate) fn set_value(alloc: Global, fields: &[Value], place: usize) -> Result<Value, Stop> {
+pub(crate) fn set_value(alloc: Global, fields: &[Value], place: usize) -> Result<Value, Stop>
+    ensures { (s : _) → TellsAt (bind (spec.one_of (slice_get fields.now place)) (spec.if_set (codes "field is not set")) s) result s }
+{
     match fields.get(place) {
         None => Err(wrong(alloc)),
         Some(Value::Unset) => Err(fault(alloc, FaultKind::Runtime, b"field is not set")),
@@ -78,6 +94,7 @@ pub(crate) fn set_value(alloc: Global, fields: &[Value], place: usize) -> Result
 }
 
 /// Whether the iterations that run may write a field of an instance.
+#[tactic(auto, unfolding(crate::specs::Outcome::bind, crate::specs::Outcome::pure, crate::specs::Outcome::stop, crate::specs::Outcome::look, crate::specs::Seen::seen))]
 pub(crate) fn allow_field(alloc: Global, state: &State, at: Ref, place: usize) -> Result<(), Stop>
     ensures { Tells (spec.allow in_place (Field at place) (seen state.now)) result state.now }
 {

@@ -8,6 +8,7 @@ mod calls;
 mod captures;
 mod changes;
 mod cursor;
+mod entering;
 mod expressions;
 mod fields;
 mod flow;

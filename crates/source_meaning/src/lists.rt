@@ -1,15 +1,16 @@
 #![tactic(auto, unfolding(crate::specs::Outcome::bind, crate::specs::Outcome::pure, crate::specs::Outcome::stop))]
 
-ghost use Rattle.std.specs.Prelude.{◌≡◌, IfOk, length};
+ghost use Rattle.std.specs.Prelude.{◌≡◌, ◌<◌, IfOk, IfSome, Some, codes};
 ghost use Rattle.codon_base.specs.declared.fault.FaultKind.TheVariants as kind;
-ghost use Rattle.codon_base.specs.declared.value.Value.{out-Value};
+ghost use Rattle.codon_base.specs.declared.object.Object.TheVariants.{List as Listed};
+ghost use Rattle.codon_base.specs.declared.value.Value.{Value-F, out-Value};
+ghost use Rattle.codon_base.specs.Levels.{object_at};
 ghost use Rattle.codon_base.specs.Sequences.{sliced};
 ghost use Rattle.source_meaning.specs.Objects as spec;
 ghost use Rattle.source_meaning.specs.Iterations.{in_place};
 ghost use Rattle.source_meaning.specs.Seen.{seen, Tells, TellsAt, TellsBy, IsFault};
-ghost use Rattle.source_meaning.specs.Sights.{list_in};
+ghost use Rattle.source_meaning.specs.Sights.{list_in, named_place};
 ghost use Rattle.source_meaning.specs.Task.{Whole};
-ghost use Rattle.std.specs.Prelude.{codes};
 
 use crate::sight::{is_lent, is_own_place};
 use crate::state::{State, Stop};
@@ -22,7 +23,8 @@ use value_operators::{bound_of, place_of};
 /// The items of the list at an address.
 #[tactic(auto, unfolding(crate::specs::Outcome::bind, crate::specs::Outcome::pure, crate::specs::Outcome::stop, crate::specs::Outcome::look, crate::specs::Seen::seen))]
 pub(crate) fn list_at<'s>(alloc: Global, state: &'s State, at: Ref) -> Result<&'s [Value], Stop>
-    ensures { TellsBy list_in (spec.list_at at (seen state.now)) result state.now }
+    ensures items { TellsBy list_in (spec.list_at at (seen state.now)) result state.now }
+    ensures found { IfOk result (λ items. object_at (seen state.now).shared.levels at ≡ Some (Listed items.now)) }
 {
     match items_at(&state.store, at) {
         Some(items) => Ok(items),
@@ -31,6 +33,7 @@ pub(crate) fn list_at<'s>(alloc: Global, state: &'s State, at: Ref) -> Result<&'
 }
 
 /// The place of a list that an index names, where the iterations that run may use it.
+#[tactic(auto, unfolding(crate::specs::Outcome::bind, crate::specs::Outcome::pure, crate::specs::Outcome::stop, crate::specs::Outcome::look, crate::specs::Seen::seen))]
 pub(crate) fn used_place(
     alloc: Global,
     state: &State,
@@ -38,7 +41,8 @@ pub(crate) fn used_place(
     size: usize,
     index: i64,
 ) -> Result<usize, Stop>
-    ensures { Tells (spec.used_place in_place at size index (seen state.now)) result state.now }
+    ensures place { Tells (spec.used_place in_place at size index (seen state.now)) result state.now }
+    ensures within { IfOk result (λ place. place < size) }
 {
     let place = named_place(alloc, state, at, size, index)?;
     if !is_own_place(state.store.iterations.as_slice(), at, place) {
@@ -48,6 +52,7 @@ pub(crate) fn used_place(
 }
 
 /// The place that an index names.
+#[tactic(auto, unfolding(crate::specs::Outcome::bind, crate::specs::Outcome::pure, crate::specs::Outcome::stop, crate::specs::Outcome::look, crate::specs::Seen::seen))]
 fn named_place(
     alloc: Global,
     state: &State,
@@ -55,7 +60,8 @@ fn named_place(
     size: usize,
     index: i64,
 ) -> Result<usize, Stop>
-    ensures { Tells (named_place at size index (seen state.now)) result state.now }
+    ensures place { Tells (named_place at size index (seen state.now)) result state.now }
+    ensures within { IfOk result (λ place. place < size) }
 {
     match place_in(is_lent(state.store.iterations.as_slice(), at), size, index) {
         Some(place) => Ok(place),
@@ -65,7 +71,8 @@ fn named_place(
 
 /// The place that an index names in a list of that size. No index counts from the end of one that is lent.
 fn place_in(lent: bool, size: usize, index: i64) -> Option<usize>
-    ensures { result ≡ spec.place_in lent size index }
+    ensures place { result ≡ spec.place_in lent size index }
+    ensures within { IfSome result (λ place. place < size) }
 {
     if lent && index < 0 {
         return None;
@@ -74,6 +81,7 @@ fn place_in(lent: bool, size: usize, index: i64) -> Option<usize>
 }
 
 /// Whether a list may be used as a whole.
+#[tactic(auto, unfolding(crate::specs::Outcome::bind, crate::specs::Outcome::pure, crate::specs::Outcome::stop, crate::specs::Outcome::look, crate::specs::Seen::seen))]
 pub(crate) fn allow_whole(alloc: Global, state: &State, at: Ref) -> Result<(), Stop>
     ensures { Tells (spec.allow in_place (Whole at) (seen state.now)) result state.now }
 {
@@ -129,7 +137,7 @@ pub(crate) fn bounded(
 }
 
 /// The items from one place to before another, as far as there are any.
-fn part(items: &[Value], from: usize, to: usize) -> &[Value]
+pub(crate) fn part(items: &[Value], from: usize, to: usize) -> &[Value]
     ensures { result.now ≡ sliced items.now from to }
 {
     let end = to.min(items.len());
@@ -145,32 +153,6 @@ pub(crate) fn copied(alloc: Global, items: &[Value]) -> Result<Values, Memory>
         copy.push(item.try_clone(alloc)?)?;
     }
     Ok(copy)
-}
-
-/// The items of a part of a list that may be used as a whole.
-pub(crate) fn list_part(
-    alloc: Global,
-    state: &State,
-    at: Ref,
-    from: &Value,
-    to: &Value,
-) -> Result<Values, Stop>
-    ensures { Tells (list_part at from.now to.now (seen state.now)) result state.now }
-{
-    let items = list_at(alloc, state, at)?;
-    let start = bounded(alloc, 0, items.len(), from)?;
-    let stop = bounded(alloc, items.len(), items.len(), to)?;
-    allow_whole(alloc, state, at)?;
-    Ok(copied(alloc, part(items, start, stop))?)
-}
-
-/// The items of a list that may be used as a whole.
-pub(crate) fn whole_list(alloc: Global, state: &State, at: Ref) -> Result<Values, Stop>
-    ensures { Tells (whole_list at (seen state.now)) result state.now }
-{
-    let items = list_at(alloc, state, at)?;
-    allow_whole(alloc, state, at)?;
-    Ok(copied(alloc, items)?)
 }
 
 /// The stop where an index names no place.

@@ -2,6 +2,7 @@
 
 ghost use Rattle.std.specs.Prelude.{◌≡◌, ◌∷◌, IfOk};
 ghost use Rattle.source_meaning.specs.Loops as spec;
+ghost use Rattle.source_meaning.specs.Cursors.{IsWithin};
 ghost use Rattle.source_meaning.specs.Steps.{generated};
 ghost use Rattle.source_meaning.specs.Seen.{seen, TellsFlow};
 ghost use Rattle.source_meaning.specs.Tasks.{Nests, here, known_of, consumer_of, consumers_of};
@@ -9,6 +10,7 @@ ghost use Rattle.source_meaning.specs.Tasks.{Nests, here, known_of, consumer_of,
 use crate::arguments::{arguments, parameters};
 use crate::flow::{Flow, closed, yielded};
 use crate::frames::{wait, wake};
+use crate::iterable::Cursor;
 use crate::prepared::{Called, Prepared};
 use crate::runner::Runner;
 use crate::state::{State, Stop};
@@ -16,6 +18,16 @@ use crate::task::{Consumer, Task};
 use crate::variables::{tick, wrong};
 use codon_base::{Memory, Value, Values};
 use std::alloc::Global;
+
+/// The numbers of a cursor are those of its type.
+pub(crate) fn is_within(cursor: &Cursor)
+    ensures { IsWithin cursor.now }
+{
+    if let Cursor::Number(at, stop, _) = cursor {
+        let _at = *at;
+        let _stop = *stop;
+    }
+}
 
 /// The consumers, with one more inside.
 fn inside<'a>(

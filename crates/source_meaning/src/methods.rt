@@ -15,6 +15,7 @@ use crate::callee::function_named;
 use crate::cursor::{begun, next};
 use crate::flow::{End, Flow, ended, goes_on};
 use crate::iterable::{Cursor, Iterable};
+use crate::loops::is_within;
 use crate::objects::{allocate, append, ref_in};
 use crate::operations::list_method;
 use crate::prepared::{Called, Prepared};
@@ -128,6 +129,7 @@ impl<'m, F: Fn(Global, &Prepared<'_>, u64, u32, &mut State, &[Consumer<'_>], Tas
             Iterable::Items(container) => self.append_turns(state, list, Cursor::Item(container, 0)),
             Iterable::Numbers(start, stop, step) => {
                 let cursor = begun(self.alloc, state, &start, &stop, &step)?;
+                is_within(&cursor);
                 self.append_turns(state, list, cursor)
             }
         }

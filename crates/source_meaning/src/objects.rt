@@ -1,16 +1,18 @@
 #![tactic(auto, unfolding(crate::specs::Outcome::bind, crate::specs::Outcome::pure, crate::specs::Outcome::stop))]
 
-ghost use Rattle.std.specs.Prelude.{pos};
-ghost use Rattle.codon_base.specs.declared.value.Value.{out-Value};
+ghost use Rattle.codon_base.specs.declared.value.Value.{Value-F, out-Value};
 ghost use Rattle.source_meaning.specs.Objects as spec;
 ghost use Rattle.source_meaning.specs.Iterations.{in_place};
 ghost use Rattle.source_meaning.specs.Seen.{seen, Tells, TellsAt};
 ghost use Rattle.source_meaning.specs.Tasks.{program_of};
 ghost use Rattle.value_operators.specs.Answers.{made_of};
 
-use crate::changes::{push_to, put_at, set_field_at};
+use crate::changes::{SIZE_LIMIT, push_at, put_at, set_field_at};
 use crate::fields::{allow_field, field_place, instance_at, set_value};
-use crate::lists::{bounded, found_in_list, index_fault, item_of_list, list_at, list_part, used_place};
+use crate::lists::{
+    allow_whole, bounded, copied, found_in_list, index_fault, item_of_list, list_at, part,
+    size_fault, used_place,
+};
 use crate::prepared::Prepared;
 use crate::state::{State, Stop};
 use crate::variables::wrong;
@@ -19,6 +21,7 @@ use std::alloc::Global;
 use value_operators::{Made, place_of};
 
 /// A new object on the last level of the heap.
+#[tactic(auto, unfolding(crate::specs::Outcome::bind, crate::specs::Outcome::pure, crate::specs::Outcome::stop, crate::specs::Outcome::look, crate::specs::Outcome::change_levels, crate::specs::Seen::seen))]
 pub(crate) fn allocate(state: &mut State, object: Object) -> Result<Value, Stop>
     ensures { Tells (spec.allocate object (seen state.old)) result state.new }
 {
@@ -46,14 +49,18 @@ pub(crate) fn item_at(alloc: Global, state: &State, container: &Value, index: &V
     let index = int_in(alloc, state, index)?;
     match container {
         Value::Ref(at) => item_of_list(alloc, state, *at, index),
-        Value::Text(text) => character_at(alloc, text, index),
-        Value::Tuple(items) => tuple_item(alloc, items.as_slice(), index),
+        Value::Text(text) => {
+            let v = character_at(alloc, text, index)?;
+            Ok(v)
+        }
+        Value::Tuple(items) => tuple_item(alloc, state, items.as_slice(), index),
         _ => Err(wrong(alloc)),
     }
 }
 
 /// The text of the character that an index names.
 fn character_at(alloc: Global, text: &Text, index: i64) -> Result<Value, Stop>
+    ensures { (s : _) → TellsAt (spec.indexed_by in_place (Value-F.Text text.now) index s) result s }
 {
     match place_of(text.len(), index) {
         Some(place) => Ok(Value::Text(text.slice(alloc, place, place + 1)?)),
@@ -62,7 +69,8 @@ fn character_at(alloc: Global, text: &Text, index: i64) -> Result<Value, Stop>
 }
 
 /// The item of a tuple that an index names.
-fn tuple_item(alloc: Global, items: &[Value], index: i64) -> Result<Value, Stop>
+fn tuple_item(alloc: Global, state: &State, items: &[Value], index: i64) -> Result<Value, Stop>
+    ensures { Tells (spec.indexed_by in_place (Value-F.Tuple items.now) index (seen state.now)) result state.now }
 {
     let Some(place) = place_of(items.len(), index) else {
         return Err(index_fault(alloc));
@@ -90,13 +98,14 @@ pub(crate) fn found_at(alloc: Global, state: &State, container: &Value, place: u
 {
     match container {
         Value::Ref(at) => found_in_list(alloc, state, *at, place),
-        Value::Text(text) => found_in_text(alloc, text, place),
+        Value::Text(text) => found_in_text(alloc, state, text, place),
         _ => Err(wrong(alloc)),
     }
 }
 
 /// The text of the character at a place, where there is one.
-fn found_in_text(alloc: Global, text: &Text, place: u64) -> Result<Option<Value>, Stop>
+fn found_in_text(alloc: Global, state: &State, text: &Text, place: u64) -> Result<Option<Value>, Stop>
+    ensures { Tells (spec.found_by in_place place (Value-F.Text text.now) (seen state.now)) result state.now }
 {
     if place >= text.len() as u64 {
         return Ok(None);
@@ -111,28 +120,45 @@ pub(crate) fn slice(alloc: Global, state: &mut State, v: &Value, from: &Value, t
     ensures { Tells (spec.slice in_place (out-Value v.now) from.now to.now (seen state.old)) result state.new }
 {
     match v {
-        Value::Text(text) => text_part(alloc, text, from, to),
-        Value::Ref(at) => {
-            let items = list_part(alloc, state, *at, from, to)?;
-            allocate(state, Object::List(items))
+        Value::Text(text) => {
+            let v = text_part(alloc, text, from, to)?;
+            Ok(v)
         }
+        Value::Ref(at) => list_part(alloc, state, *at, from, to),
         _ => Err(wrong(alloc)),
     }
 }
 
 /// A part of a text.
 fn text_part(alloc: Global, text: &Text, from: &Value, to: &Value) -> Result<Value, Stop>
+    ensures { (s : _) → TellsAt (spec.slice in_place (Value-F.Text text.now) from.now to.now s) result s }
 {
     let start = bounded(alloc, 0, text.len(), from)?;
     let stop = bounded(alloc, text.len(), text.len(), to)?;
     Ok(Value::Text(text.slice(alloc, start, stop)?))
 }
 
+/// A part of a list.
+fn list_part(alloc: Global, state: &mut State, at: Ref, from: &Value, to: &Value) -> Result<Value, Stop>
+    ensures { Tells (spec.slice in_place (Value-F.Ref at) from.now to.now (seen state.old)) result state.new }
+{
+    let items = list_at(alloc, state, at)?;
+    let start = bounded(alloc, 0, items.len(), from)?;
+    let stop = bounded(alloc, items.len(), items.len(), to)?;
+    allow_whole(alloc, state, at)?;
+    let items = copied(alloc, part(items, start, stop))?;
+    allocate(state, Object::List(items))
+}
+
 /// Puts an item at the end of a list.
 pub(crate) fn append(alloc: Global, state: &mut State, at: Ref, v: Value) -> Result<(), Stop>
     ensures { Tells (spec.append at v (seen state.old)) result state.new }
 {
-    push_to(alloc, state, at, v)
+    let size = list_at(alloc, state, at)?.len();
+    if size >= SIZE_LIMIT {
+        return Err(size_fault(alloc));
+    }
+    push_at(alloc, state, at, v)
 }
 
 /// `v.name`.
@@ -142,7 +168,8 @@ pub(crate) fn field(alloc: Global, state: &State, program: &Prepared<'_>, v: &Va
     let at = ref_in(alloc, state, v)?;
     let instance = instance_at(alloc, state, at)?;
     let place = field_place(alloc, program, instance.class, name)?;
-    set_value(alloc, instance.fields, place)
+    let v = set_value(alloc, instance.fields, place)?;
+    Ok(v)
 }
 
 /// `v.name = new`.
@@ -152,9 +179,9 @@ pub(crate) fn set_field(alloc: Global, state: &mut State, program: &Prepared<'_>
     let at = ref_in(alloc, state, v)?;
     let instance = instance_at(alloc, state, at)?;
     let place = field_place(alloc, program, instance.class, name)?;
-    if place >= instance.fields.len() {
+    let Some(_) = instance.fields.get(place) else {
         return Err(wrong(alloc));
-    }
+    };
     allow_field(alloc, state, at, place)?;
     set_field_at(alloc, state, at, place, new)
 }

@@ -1,4 +1,4 @@
-#![tactic(auto, unfolding(crate::specs::Outcome::bind, crate::specs::Outcome::pure, crate::specs::Outcome::stop))]
+#![tactic(auto, unfolding(crate::specs::Outcome::bind, crate::specs::Outcome::pure, crate::specs::Outcome::stop), using(crate::proofs::Operated::operated))]
 
 ghost use Rattle.codon_base.specs.declared.value.Value.{out-Value};
 ghost use Rattle.source_meaning.specs.Objects as objects;
@@ -8,13 +8,14 @@ ghost use Rattle.source_meaning.specs.Statements as statements;
 ghost use Rattle.source_meaning.specs.Callees.{builtin_of};
 ghost use Rattle.source_meaning.specs.Iterations.{in_place};
 ghost use Rattle.source_meaning.specs.Seen.{seen, Tells};
-ghost use Rattle.source_meaning.specs.Sights.{sight_of};
+ghost use Rattle.codon_base.specs.Operators.{wrong};
+ghost use Rattle.source_meaning.specs.Sights.{sight_of, IsEnd};
 ghost use Rattle.value_operators.specs.Answers.{Makes};
 
 use crate::callee::Builtin;
-use crate::changes::{clear, copy, extend, pop, push_to};
+use crate::changes::{clear, copy, extend, pop};
 use crate::lists::{other_place, size_fault};
-use crate::objects::settled;
+use crate::objects::{append, settled};
 use crate::state::{State, Stop, Store};
 use crate::variables::wrong;
 use codon_base::{Fault, FaultKind, Memory, Or, Ref, Spelling, Text, Value, Values, WalkEnd, show_whole};
@@ -192,7 +193,7 @@ fn method_with(alloc: Global, state: &mut State, name: &Spelling, at: Ref, v: Va
 {
     let name = name.as_slice();
     if name == b"append".as_slice() {
-        push_to(alloc, state, at, v)?;
+        append(alloc, state, at, v)?;
         Ok(Value::Unit)
     } else if name == b"extend".as_slice() {
         extend(alloc, state, at, &v)?;
@@ -215,6 +216,7 @@ pub(crate) fn text_of_value(alloc: Global, state: &mut State, v: &Value) -> Resu
 
 /// The stop of a walk that ended before its answer was known.
 fn walk_fault(alloc: Global, end: WalkEnd) -> Stop
+    ensures { IsEnd end result }
 {
     match end {
         WalkEnd::WrongKind => wrong(alloc),

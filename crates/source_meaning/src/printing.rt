@@ -5,7 +5,7 @@ ghost use Rattle.codon_base.specs.declared.value.Value.{out-Value};
 ghost use Rattle.codon_base.specs.declared.value.Value.TheVariants as value;
 ghost use Rattle.source_meaning.specs.Objects as objects;
 ghost use Rattle.source_meaning.specs.Iterations.{in_place};
-ghost use Rattle.source_meaning.specs.Pieces.{ends_of, joined};
+ghost use Rattle.source_meaning.specs.Pieces.{ends_of, joined, separated_texts, followed};
 ghost use Rattle.source_meaning.specs.Printing as spec;
 ghost use Rattle.source_meaning.specs.Seen.{seen, Tells, TellsBy, TellsAt};
 ghost use Rattle.source_meaning.specs.Scopes.{scope_of};
@@ -74,18 +74,35 @@ fn push_bytes(out: &mut Bytes, bytes: &[u8]) -> Result<(), Memory>
 }
 
 /// The texts of values with one text between them, and another after them.
-fn joined(alloc: Global, state: &mut State, vs: &[Value], between: &Text, last: &Text) -> Result<Bytes, Stop>
+fn joined(alloc: Global, state: &mut State, vs: &[Value], between: &Text, last: &Text) -> Result<Text, Stop>
     ensures { Tells (joined in_place vs.now between.now last.now (seen state.old)) result state.new }
 {
-    let mut piece = Items::new(alloc);
-    'values: for (place, v) in vs.iter().enumerate() {
-        if place != 0 {
-            push_bytes(&mut piece, between.as_bytes())?;
-        }
-        let text = text_of_value(alloc, state, v)?;
-        push_bytes(&mut piece, text.as_bytes())?;
+    let mut piece = separated(alloc, state, vs, between)?;
+    piece.append(last)?;
+    Ok(piece)
+}
+
+/// The texts of values with one text between them.
+fn separated(alloc: Global, state: &mut State, vs: &[Value], between: &Text) -> Result<Text, Stop>
+    ensures { Tells (separated_texts in_place vs.now between.now (seen state.old)) result state.new }
+{
+    let [first, more @ ..] = vs else {
+        return Ok(Text::new(alloc));
+    };
+    let text = text_of_value(alloc, state, first)?;
+    followed(alloc, state, more, between, text)
+}
+
+/// A text with the texts of more values after it, each with one text before it.
+fn followed(alloc: Global, state: &mut State, vs: &[Value], between: &Text, text: Text) -> Result<Text, Stop>
+    ensures { Tells (followed in_place vs.now between.now text (seen state.old)) result state.new }
+{
+    let mut piece = text;
+    'values: for v in vs {
+        let next = text_of_value(alloc, state, v)?;
+        piece.append(between)?;
+        piece.append(&next)?;
     }
-    push_bytes(&mut piece, last.as_bytes())?;
     Ok(piece)
 }
 
@@ -95,7 +112,7 @@ fn print(alloc: Global, state: &mut State, vs: &[Value], ends: Ends) -> Result<(
     let between = text_in(alloc, ends.between)?;
     let last = text_in(alloc, ends.last)?;
     let piece = joined(alloc, state, vs, &between, &last)?;
-    push_bytes(&mut state.out, piece.as_slice())?;
+    push_bytes(&mut state.out, piece.as_bytes())?;
     Ok(())
 }
 

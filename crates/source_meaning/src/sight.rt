@@ -70,7 +70,8 @@ fn is_number(place: usize, item: &Value) -> bool
 pub(crate) fn is_target(iterations: &[Iteration], at: Ref) -> bool
     ensures { result ≡ list_all (λ iteration. is_in at iteration.targets) (drop at.level (map iteration_of iterations.now)) }
 {
-    'above: for iteration in above(iterations, at.level as usize) {
+    let rest = above(iterations, at.level as usize);
+    'above: for iteration in rest {
         if !is_in(at, iteration.targets.as_slice()) {
             return false;
         }

@@ -7,7 +7,7 @@ ghost use Rattle.source_meaning.specs.Targets as updates;
 ghost use Rattle.source_meaning.specs.Expressions.{expr, condition};
 ghost use Rattle.source_meaning.specs.Loops.{yield, while_next};
 ghost use Rattle.source_meaning.specs.Seen.{seen, Tells, TellsFlow};
-ghost use Rattle.source_meaning.specs.Outcome.{◌>>=◌, pure};
+ghost use Rattle.source_meaning.specs.Outcome.{bind, pure};
 ghost use Rattle.source_meaning.specs.Printing.{print_after};
 ghost use Rattle.source_meaning.specs.State.{Next};
 ghost use Rattle.source_meaning.specs.Scopes.{scope_of};
@@ -211,7 +211,7 @@ impl<'m, F: Fn(Global, &Prepared<'_>, u64, u32, &mut State, &[Consumer<'_>], Tas
     /// `yield e`.
     pub(crate) fn give_item(&self, state: &mut State, consumers: &[Consumer<'_>], scope: &Scope<'_>, e: &Expr) -> Result<Flow, Stop>
         requires { Nests self.now.program.now self.now.limit self.now.depth (F.pre self.now.low) (F.post self.now.low) }
-        ensures { TellsFlow ((expr (here self.now.program.now self.now.limit self.now.depth) (scope_of scope.now) e.now >>= yield (here self.now.program.now self.now.limit self.now.depth) (consumers_of consumers.now)) (seen state.old)) result state.new }
+        ensures { TellsFlow (bind (expr (here self.now.program.now self.now.limit self.now.depth) (scope_of scope.now) e.now) (yield (here self.now.program.now self.now.limit self.now.depth) (consumers_of consumers.now)) (seen state.old)) result state.new }
     {
         let v = self.expr(state, scope, e)?;
         self.give(state, consumers, v)
@@ -220,7 +220,7 @@ impl<'m, F: Fn(Global, &Prepared<'_>, u64, u32, &mut State, &[Consumer<'_>], Tas
     /// `assert e, text`.
     pub(crate) fn asserted(&self, state: &mut State, scope: &Scope<'_>, e: &Expr, text: &Option<Expr>) -> Result<Flow, Stop>
         requires { Nests self.now.program.now self.now.limit self.now.depth (F.pre self.now.low) (F.post self.now.low) }
-        ensures { TellsFlow ((condition (here self.now.program.now self.now.limit self.now.depth) (scope_of scope.now) e.now >>= λ t. if t then pure Next else spec.raise (here self.now.program.now self.now.limit self.now.depth) (scope_of scope.now) (Some kind.Assertion) text.now) (seen state.old)) result state.new }
+        ensures { TellsFlow (bind (condition (here self.now.program.now self.now.limit self.now.depth) (scope_of scope.now) e.now) (λ t. if t then pure Next else spec.raise (here self.now.program.now self.now.limit self.now.depth) (scope_of scope.now) (Some kind.Assertion) text.now) (seen state.old)) result state.new }
     {
         if self.condition(state, scope, e)? {
             Ok(ended(End::Next))
@@ -241,7 +241,7 @@ impl<'m, F: Fn(Global, &Prepared<'_>, u64, u32, &mut State, &[Consumer<'_>], Tas
     /// `targets = e`.
     pub(crate) fn assignment(&self, state: &mut State, scope: &Scope<'_>, written: &Targets, e: &Expr) -> Result<Flow, Stop>
         requires { Nests self.now.program.now self.now.limit self.now.depth (F.pre self.now.low) (F.post self.now.low) }
-        ensures { TellsFlow (spec.done (expr (here self.now.program.now self.now.limit self.now.depth) (scope_of scope.now) e.now >>= spec.assign_all (here self.now.program.now self.now.limit self.now.depth) (scope_of scope.now) written.now) (seen state.old)) result state.new }
+        ensures { TellsFlow (spec.done (bind (expr (here self.now.program.now self.now.limit self.now.depth) (scope_of scope.now) e.now) (spec.assign_all (here self.now.program.now self.now.limit self.now.depth) (scope_of scope.now) written.now)) (seen state.old)) result state.new }
     {
         let v = self.expr(state, scope, e)?;
         self.assign_all(state, scope, written, v)?;
@@ -260,7 +260,7 @@ impl<'m, F: Fn(Global, &Prepared<'_>, u64, u32, &mut State, &[Consumer<'_>], Tas
     /// An expression whose value is dropped.
     pub(crate) fn evaluated(&self, state: &mut State, scope: &Scope<'_>, e: &Expr) -> Result<Flow, Stop>
         requires { Nests self.now.program.now self.now.limit self.now.depth (F.pre self.now.low) (F.post self.now.low) }
-        ensures { TellsFlow ((expr (here self.now.program.now self.now.limit self.now.depth) (scope_of scope.now) e.now >>= λ _. pure Next) (seen state.old)) result state.new }
+        ensures { TellsFlow (bind (expr (here self.now.program.now self.now.limit self.now.depth) (scope_of scope.now) e.now) (λ _. pure Next) (seen state.old)) result state.new }
     {
         let _ = self.expr(state, scope, e)?;
         Ok(ended(End::Next))

@@ -3,7 +3,7 @@
 ghost use Rattle.std.specs.Prelude.{◌≡◌};
 ghost use Rattle.source_meaning.specs.Loops as spec;
 ghost use Rattle.source_meaning.specs.Meaning.{turn_of};
-ghost use Rattle.source_meaning.specs.Outcome.{◌>>=◌, pure};
+ghost use Rattle.source_meaning.specs.Outcome.{bind, pure};
 ghost use Rattle.source_meaning.specs.Regions.{consumer_in};
 ghost use Rattle.source_meaning.specs.Scopes.{scope_of};
 ghost use Rattle.source_meaning.specs.Seen.{seen, TellsFlow};
@@ -94,7 +94,7 @@ impl<'m, F: Fn(Global, &Prepared<'_>, u64, u32, &mut State, &[Consumer<'_>], Tas
     #[cycle(statement)]
     fn while_loop(&self, state: &mut State, consumers: &[Consumer<'_>], scope: &Scope<'_>, body: &Items<Stmt>, e: &Expr) -> Result<Flow, Stop>
         requires { Nests self.now.program.now self.now.limit self.now.depth (F.pre self.now.low) (F.post self.now.low) }
-        ensures { TellsFlow ((while_of (here self.now.program.now self.now.limit self.now.depth) (consumers_of consumers.now) (scope_of scope.now) e.now body.now >>= λ flow. pure (spec.after_loop flow)) (seen state.old)) result state.new }
+        ensures { TellsFlow (bind (while_of (here self.now.program.now self.now.limit self.now.depth) (consumers_of consumers.now) (scope_of scope.now) e.now body.now) (λ flow. pure (spec.after_loop flow)) (seen state.old)) result state.new }
     {
         let mut left = left(state, self.limit);
         'turns: loop {

@@ -8,8 +8,8 @@ use Rattle.source_meaning.specs.Meaning.{turn_of}
 use Rattle.source_meaning.specs.Steps.{chosen, while_of, turns_from}
 use Rattle.source_meaning.specs.Seen.{seen}
 use Rattle.source_meaning.specs.Scopes.{scope_of}
-use Rattle.source_meaning.specs.Task.{Body}
-use Rattle.source_meaning.specs.Tasks.{here, consumers_of}
+use Rattle.source_meaning.specs.Regions.{consumer_in}
+use Rattle.source_meaning.specs.Tasks.{here, consumers_of, region_at}
 use Rattle.source_meaning.proofs.runner.Runner.+statement.Given as goal
 
 abbrev pub invariant-block-statements : goal.invariant-block-statements
@@ -31,11 +31,11 @@ invariant-while_loop-turns g l =
 abbrev pub decreases-while_loop-turns : goal.decreases-while_loop-turns
 decreases-while_loop-turns g l = l.left
 
-abbrev pub invariant-body_turns-turns : goal.invariant-body_turns-turns
-invariant-body_turns-turns g l =
+abbrev pub invariant-turns-turns : goal.invariant-turns-turns
+invariant-turns-turns g l =
     let at = here l.self.program.now l.self.limit l.self.depth in
-    let turn = turn_of at (consumers_of l.consumers) (Body (scope_of l.scope) l.l.names l.l.body) in
+    let turn = turn_of at (consumers_of l.consumers) (consumer_in (region_at l.region) (scope_of l.scope) l.l) in
     turns_from at turn l.fn.from (seen l.fn.state) ≡ turns (next_by in_place l.self.limit) turn (suc l.left) l.cursor (seen l.state)
 
-abbrev pub decreases-body_turns-turns : goal.decreases-body_turns-turns
-decreases-body_turns-turns g l = l.left
+abbrev pub decreases-turns-turns : goal.decreases-turns-turns
+decreases-turns-turns g l = l.left

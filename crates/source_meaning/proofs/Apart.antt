@@ -1,0 +1,91 @@
+-- Regions and their iterations, step by step as the interpreter takes them.
+use Rattle.std.proofs.Common.{◌≡◌, ◌<◌, ℕ, Bool, List, length, refl, sym, ap, ◌∙◌, arith}
+use Rattle.codon_base.specs.declared.value.Value.{Value}
+use Rattle.source_trees.specs.declared.statement.LoopNames.{LoopNames}
+use Rattle.source_trees.specs.declared.statement.Stmt.{Stmt}
+use Rattle.source_trees.specs.declared.pipeline.Stage.{Stage}
+use Rattle.source_meaning.specs.State.{State, Stop, TooDeep, Flow}
+use Rattle.source_meaning.specs.Outcome.{Outcome, Gives, Stops, Run, and_then, bind, pure, ◌>>=◌, is_outside, counting}
+use Rattle.source_meaning.specs.Program.{Scope}
+use Rattle.source_meaning.specs.Task.{Region, Consumer, Body, Parallel}
+use Rattle.source_meaning.specs.Iterations.{in_place}
+use Rattle.source_meaning.specs.Inside.{Saved, entering, leaving, from_zero, finishing}
+use Rattle.source_meaning.specs.Meaning.{turn_of}
+use Rattle.source_meaning.specs.Stages.{staged_ahead}
+use Rattle.source_meaning.specs.Regions.{staged_apart}
+use Rattle.source_meaning.specs.Tasks.{program_of, lower, here}
+use Rattle.source_meaning.specs.declared.prepared.Prepared.{Prepared}
+use Rattle.source_meaning.proofs.Iterating.{counting_steps, turn_steps, turn_levels, stage_steps, stage_levels}
+
+-- ---- regions
+
+module _ (body : Run Flow) (s t : State) (outside : Bool) (reached : ℕ) (zero : t ≡ from_zero s) (o : outside ≡ is_outside s.shared.iterations) (r : reached ≡ s.shared.reached) where
+  finishes : Flow → Run Flow
+  finishes flow = finishing outside reached flow >>= λ _. pure flow
+
+  begins : counting body s ≡ and_then (body t) finishes
+  begins = counting_steps body s ∙ (λ i. and_then (body (sym zero i)) (λ flow. finishing (sym o i) (sym r i) flow >>= λ _. pure flow))
+
+  pub region_gives : (u w : State) (flow : Flow) → body t ≡ Gives flow u → finishing outside reached flow u ≡ Gives tt w → counting body s ≡ Gives flow w
+  unfolding bind pure
+  region_gives u w flow e f = begins ∙ ap (λ p. and_then p finishes) e ∙ ap (λ p. and_then p (λ _. pure flow)) f
+
+  pub region_stops : (u : State) (why : Stop) → body t ≡ Stops why u → counting body s ≡ Stops why u
+  region_stops u why e = begins ∙ ap (λ p. and_then p finishes) e
+
+  pub region_stops_after : (u w : State) (flow : Flow) (why : Stop) → body t ≡ Gives flow u → finishing outside reached flow u ≡ Stops why w → counting body s ≡ Stops why w
+  unfolding bind
+  region_stops_after u w flow why e f = begins ∙ ap (λ p. and_then p finishes) e ∙ ap (λ p. and_then p (λ _. pure flow)) f
+
+-- ---- iterations
+
+module _ (region : Region) (v : Value) (body : Run Flow) (s : State) where
+  abbrev Steps : Type 0
+  Steps = in_place.item region v body s ≡ (entering region v >>= λ saved. body >>= λ flow. leaving region saved >>= λ _. pure flow) s
+
+  abbrev leaves : Saved → Flow → Run Flow
+  leaves saved flow = leaving region saved >>= λ _. pure flow
+
+  module _ (steps : Steps) where
+    enters : (o : Outcome Saved) → entering region v s ≡ o → in_place.item region v body s ≡ and_then o (λ saved. body >>= leaves saved)
+    unfolding bind
+    enters o e = steps ∙ ap (λ p. and_then p (λ saved. body >>= leaves saved)) e
+
+    runs : (t : State) (saved : Saved) (o : Outcome Flow) → entering region v s ≡ Gives saved t → body t ≡ o → in_place.item region v body s ≡ and_then o (leaves saved)
+    unfolding bind
+    runs t saved o e f = enters (Gives saved t) e ∙ ap (λ p. and_then p (leaves saved)) f
+
+    pub item_gives : (t u w : State) (saved : Saved) (flow : Flow) → entering region v s ≡ Gives saved t → body t ≡ Gives flow u → leaving region saved u ≡ Gives tt w → in_place.item region v body s ≡ Gives flow w
+    unfolding bind pure
+    item_gives t u w saved flow e f g = runs t saved (Gives flow u) e f ∙ ap (λ p. and_then p (λ _. pure flow)) g
+
+    pub item_stops_before : (t : State) (why : Stop) → entering region v s ≡ Stops why t → in_place.item region v body s ≡ Stops why t
+    item_stops_before t why e = enters (Stops why t) e
+
+    pub item_stops : (t u : State) (saved : Saved) (why : Stop) → entering region v s ≡ Gives saved t → body t ≡ Stops why u → in_place.item region v body s ≡ Stops why u
+    item_stops t u saved why e f = runs t saved (Stops why u) e f
+
+    pub item_stops_after : (t u w : State) (saved : Saved) (flow : Flow) (why : Stop) → entering region v s ≡ Gives saved t → body t ≡ Gives flow u → leaving region saved u ≡ Stops why w → in_place.item region v body s ≡ Stops why w
+    unfolding bind
+    item_stops_after t u w saved flow why e f g = runs t saved (Gives flow u) e f ∙ ap (λ p. and_then p (λ _. pure flow)) g
+
+-- a level above the first stays one, where there are as many levels
+still_above : (s t : State) → length t.shared.levels ≡ length s.shared.levels → 1 < length s.shared.levels → 1 < length t.shared.levels
+still_above s t e h = omega (arith, e, h)
+
+module _ (p : Prepared) (limit depth : ℕ) (consumers : List Consumer) where
+  pub turn_is : (region : Region) (inner : Scope) (names : LoopNames) (body : List Stmt) (v : Value) (s : State) → Steps region v (turn_of (here p limit depth) consumers (Body inner names body) v) s
+  unfolding lower
+  turn_is region inner names body v s = turn_steps (program_of p) limit depth TooDeep consumers region inner names body v s
+
+  pub turn_above : (inner : Scope) (names : LoopNames) (body : List Stmt) (v : Value) (s t : State) (flow : Flow) → turn_of (here p limit depth) consumers (Body inner names body) v s ≡ Gives flow t → 1 < length s.shared.levels → 1 < length t.shared.levels
+  unfolding lower
+  turn_above inner names body v s t flow e h = still_above s t (turn_levels (program_of p) limit depth TooDeep consumers inner names body v s t flow e) h
+
+  pub stage_is : (region : Region) (scope : Scope) (stage : Stage) (more : List Stage) (v : Value) (s : State) → Steps region v (staged_ahead (here p limit depth) consumers scope stage.form more v) s
+  unfolding lower
+  stage_is region scope stage more v s = stage_steps (program_of p) limit depth TooDeep consumers region scope stage more v s
+
+  pub stage_above : (scope : Scope) (stage : Stage) (more : List Stage) (v : Value) (s t : State) (flow : Flow) → staged_ahead (here p limit depth) consumers scope stage.form more v s ≡ Gives flow t → 1 < length s.shared.levels → 1 < length t.shared.levels
+  unfolding lower
+  stage_above scope stage more v s t flow e h = still_above s t (stage_levels (program_of p) limit depth TooDeep consumers scope stage more v s t flow e) h

@@ -1,0 +1,48 @@
+use Rattle.std.proofs.Common.{◌≡◌, ℕ, ◌+◌, ◌-◌, ◌*◌, suc, drop, length}
+use Rattle.source_meaning.specs.Iterations.{in_place}
+use Rattle.source_meaning.specs.Loops.{turns}
+use Rattle.source_meaning.specs.Cursors.{next_by}
+use Rattle.source_meaning.specs.Meaning.{turn_of}
+use Rattle.source_meaning.specs.Steps.{turns_from}
+use Rattle.source_meaning.specs.Task.{Stages}
+use Rattle.source_meaning.specs.Seen.{seen}
+use Rattle.source_meaning.specs.Scopes.{scope_of}
+use Rattle.source_meaning.specs.Tasks.{here, consumers_of, region_at}
+use Rattle.source_meaning.proofs.runner.Runner.+pipeline.Given as goal
+
+-- the stages that are left, and then the steps within a stage
+abbrev pub decreases-through : goal.decreases-through
+decreases-through g l = 9 * (length l.stages.now - l.place)
+
+abbrev pub decreases-turns_through : goal.decreases-turns_through
+decreases-turns_through g l = 9 * (length l.stages.now - l.from) + 1
+
+abbrev pub decreases-stage_turns : goal.decreases-stage_turns
+decreases-stage_turns g l = 9 * (length l.stages.now - l.from) + 2
+
+abbrev pub decreases-stage_loop : goal.decreases-stage_loop
+decreases-stage_loop g l = 9 * (length l.stages.now - l.from) + 3
+
+abbrev pub decreases-call_stage : goal.decreases-call_stage
+decreases-call_stage g l = 9 * (length l.stages.now - l.from) + 4
+
+abbrev pub decreases-perform : goal.decreases-perform
+decreases-perform g l = 9 * (length l.stages.now - l.from) + 5
+
+abbrev pub decreases-perform_inside : goal.decreases-perform_inside
+decreases-perform_inside g l = 9 * (length l.stages.now - l.from) + 6
+
+abbrev pub decreases-perform_ahead : goal.decreases-perform_ahead
+decreases-perform_ahead g l = 9 * (length l.stages.now - l.from) + 7
+
+abbrev pub decreases-parallel_stage : goal.decreases-parallel_stage
+decreases-parallel_stage g l = 9 * (length l.stages.now - l.from) + 8
+
+abbrev pub invariant-turns_through-turns : goal.invariant-turns_through-turns
+invariant-turns_through-turns g l =
+    let at = here l.self.program.now l.self.limit l.self.depth in
+    let turn = turn_of at (consumers_of l.consumers) (Stages (scope_of l.scope) (region_at l.region) (drop l.from l.stages)) in
+    turns_from at turn l.fn.begins (seen l.fn.state) ≡ turns (next_by in_place l.self.limit) turn (suc l.left) l.cursor (seen l.state)
+
+abbrev pub decreases-turns_through-turns : goal.decreases-turns_through-turns
+decreases-turns_through-turns g l = l.left

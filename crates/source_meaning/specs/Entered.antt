@@ -1,0 +1,37 @@
+-- How a loop begins and makes its turns in place, one after another: what is left of it where it has begun, and the step that gives the item of a turn to the loop's names.
+use Rattle.std.specs.Prelude.{◌≡◌, ◌≢◌, ℕ, Bool, true, false, Option, Some, None, Result, Ok, Err}
+use Rattle.codon_base.specs.declared.value.Value.{Value}
+use Rattle.source_trees.specs.declared.statement.LoopNames.{LoopNames}
+use Rattle.source_meaning.specs.State as meaning
+use Rattle.source_meaning.specs.Outcome.{Outcome, Gives, Stops, Run, ◌>>=◌, pure}
+use Rattle.source_meaning.specs.Program.{Scope}
+use Rattle.source_meaning.specs.Task.{Rules}
+use Rattle.source_meaning.specs.Variables.{set_loop_names}
+use Rattle.source_meaning.specs.Cursors.{next_by}
+use Rattle.source_meaning.specs.Seen.{seen, flow_of, why_of}
+use Rattle.source_meaning.specs.declared.flow.Flow.{Flow}
+use Rattle.source_meaning.specs.declared.iterable.Cursor.{Cursor}
+use Rattle.source_meaning.specs.declared.state.State.{State}
+use Rattle.source_meaning.specs.declared.state.Stop.{Stop}
+use Rattle.source_meaning.specs.declared.state.Stop.TheVariants as stop
+
+-- a loop was left by a flow, or its turns from the cursor on are what is left of it
+abbrev pub TellsEntered : Outcome meaning.Flow → (Cursor → Run meaning.Flow) → Result (Option Flow) Stop → Cursor → State → Type 0
+TellsEntered outcome turns (Ok None) at new = outcome ≡ turns at (seen new)
+TellsEntered outcome turns (Ok (Some flow)) at new = outcome ≡ Gives (flow_of flow) (seen new)
+TellsEntered outcome turns (Err e) at new = e ≢ stop.Memory → outcome ≡ Stops (why_of e) (seen new)
+
+module _ (scope : Scope) (names : LoopNames) where
+  abbrev pub takes : Option (Value × Cursor) → Run (Option Cursor)
+  takes None = pure None
+  takes (Some p) = set_loop_names scope names p.0 >>= λ _. pure (Some p.1)
+
+  -- the names take the item of the next turn, where there is one
+  abbrev pub stepped : Rules → ℕ → Cursor → Run (Option Cursor)
+  stepped rules limit at = next_by rules limit at >>= takes
+
+-- a step was made, and the cursor stands behind it, or there was none
+abbrev pub TellsStep : Outcome (Option Cursor) → Result Bool Stop → Cursor → State → Type 0
+TellsStep outcome (Ok true) at new = outcome ≡ Gives (Some at) (seen new)
+TellsStep outcome (Ok false) at new = outcome ≡ Gives None (seen new)
+TellsStep outcome (Err e) at new = e ≢ stop.Memory → outcome ≡ Stops (why_of e) (seen new)
