@@ -20,10 +20,10 @@ use Rattle.source_meaning.proofs.Iterating.{counting_steps, turn_steps, turn_lev
 -- ---- regions
 
 module _ (body : Run Flow) (s t : State) (outside : Bool) (reached : ℕ) (zero : t ≡ from_zero s) (o : outside ≡ is_outside s.shared.iterations) (r : reached ≡ s.shared.reached) where
-  finishes : Flow → Run Flow
+  abbrev finishes : Flow → Run Flow
   finishes flow = finishing outside reached flow >>= λ _. pure flow
 
-  begins : counting body s ≡ and_then (body t) finishes
+  pub begins : counting body s ≡ and_then (body t) finishes
   begins = counting_steps body s ∙ (λ i. and_then (body (sym zero i)) (λ flow. finishing (sym o i) (sym r i) flow >>= λ _. pure flow))
 
   pub region_gives : (u w : State) (flow : Flow) → body t ≡ Gives flow u → finishing outside reached flow u ≡ Gives tt w → counting body s ≡ Gives flow w

@@ -28,6 +28,9 @@ module _ (here : Setting) (consumers : List Consumer) (scope : Scope) where
   unfolding pure
   block_leaves body i x s t flow h e f g = step body i x s (Gives flow t) h e f ∙ ap (λ (r : Run Flow). r t) (next_none flow (all (drop (i + 1) body)) g)
 
+  pub block_next : (body : List Stmt) (i : ℕ) (x : Stmt) (s : State) → i < length body → x ≡ get_or body i x → all (drop i body) s ≡ and_then (stmt here consumers x scope s) (λ flow. then_next flow (all (drop (i + 1) body)))
+  block_next body i x s h e = step body i x s (stmt here consumers x scope s) h e refl
+
   pub block_stops : (body : List Stmt) (i : ℕ) (x : Stmt) (s t : State) (why : Stop) → i < length body → x ≡ get_or body i x → stmt here consumers x scope s ≡ Stops why t → all (drop i body) s ≡ Stops why t
   block_stops body i x s t why h e f = step body i x s (Stops why t) h e f
 

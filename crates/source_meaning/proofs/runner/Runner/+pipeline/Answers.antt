@@ -5,7 +5,7 @@ use Rattle.source_meaning.specs.Outcome.{Outcome, Gives, and_then, bind, pure}
 use Rattle.source_meaning.specs.Iterations.{in_place}
 use Rattle.source_meaning.specs.Cursors.{next_by}
 use Rattle.source_meaning.specs.Meaning.{turn_of}
-use Rattle.source_meaning.specs.Inside.{saved_of}
+use Rattle.source_meaning.specs.Inside.{saved_of, entering}
 use Rattle.source_meaning.specs.Pipelines.{parallel_part, from_head}
 use Rattle.source_meaning.specs.Stages.{staged, staged_ahead}
 use Rattle.source_meaning.specs.Task.{Stages}
@@ -17,7 +17,7 @@ use Rattle.source_meaning.specs.declared.iterable.Iterable.{Iterable}
 use Rattle.source_meaning.proofs.Over.{over_items, over_numbers, over_none}
 use Rattle.source_meaning.proofs.Turns.{loop_begins, turn_next}
 use Rattle.source_meaning.proofs.Ahead.{ahead_some, ahead_none, through_next, through_end}
-use Rattle.source_meaning.proofs.Apart.{region_gives, region_stops, region_stops_after, item_gives, item_stops_before, item_stops, item_stops_after, stage_is, stage_above}
+use Rattle.source_meaning.proofs.Apart.{begins, region_gives, region_stops, region_stops_after, item_gives, item_stops_before, item_stops, item_stops_after, stage_is, stage_above}
 use Rattle.source_meaning.proofs.runner.Runner.+pipeline.Goals as goal
 
 pub turns_through-turns-init : goal.turns_through-turns-init
@@ -39,25 +39,40 @@ pub parallel_stage-leave_iteration-requires : goal.parallel_stage-leave_iteratio
 parallel_stage-leave_iteration-requires g t c = stage_above c.args.self.now.program.now c.args.self.now.limit c.args.self.now.depth (consumers_of c.args.consumers.now) (scope_of c.args.scope.now) c.args.stage.now (drop c.args.from c.args.stages.now) c.args.v (seen c.enter_iteration.new.state) (seen c.perform_ahead.new.state) (flow_of c.in_ok-flow.flow) c.in_ok-flow.ensures c.in_ok-saved.ensures.above
 
 pub parallel_stage-returns : goal.parallel_stage-returns
-parallel_stage-returns g t c = item_gives (region_of c.args.region.now) c.args.v (staged_ahead (here c.args.self.now.program.now c.args.self.now.limit c.args.self.now.depth) (consumers_of c.args.consumers.now) (scope_of c.args.scope.now) c.args.stage.now.form (drop c.args.from c.args.stages.now) c.args.v) (seen c.args.state.now) (stage_is c.args.self.now.program.now c.args.self.now.limit c.args.self.now.depth (consumers_of c.args.consumers.now) (region_of c.args.region.now) (scope_of c.args.scope.now) c.args.stage.now (drop c.args.from c.args.stages.now) c.args.v (seen c.args.state.now)) (seen c.enter_iteration.new.state) (seen c.perform_ahead.new.state) (seen c.leave_iteration.new.state) (saved_of c.in_ok-saved.saved) (flow_of c.in_ok-flow.flow) c.in_ok-saved.ensures.told c.in_ok-flow.ensures c.in_ok-leave_iteration.ensures
+parallel_stage-returns g t c = item_gives (region_of c.args.region.now) c.args.v (staged_ahead (here c.args.self.now.program.now c.args.self.now.limit c.args.self.now.depth) (consumers_of c.args.consumers.now) (scope_of c.args.scope.now) c.args.stage.now.form (drop c.args.from c.args.stages.now) c.args.v) (seen c.args.state.now) (stage_is c.args.self.now.program.now c.args.self.now.limit c.args.self.now.depth (consumers_of c.args.consumers.now) (region_of c.args.region.now) (scope_of c.args.scope.now) c.args.stage.now (drop c.args.from c.args.stages.now) c.args.v (seen c.args.state.now)) (seen c.enter_iteration.new.state) (seen c.perform_ahead.new.state) (seen c.leave_iteration.new.state) (saved_of c.in_ok-saved.saved) (flow_of c.in_ok-flow.flow) (ap (λ x. entering (region_of c.args.region.now) x (seen c.args.state.now)) (sym c.in_ok-item.ensures) ∙ c.in_ok-saved.ensures.told) c.in_ok-flow.ensures c.in_ok-leave_iteration.ensures
 
 pub parallel_stage-returns-in_err-saved : goal.parallel_stage-returns-in_err-saved
-parallel_stage-returns-in_err-saved g t c = λ known. item_stops_before (region_of c.args.region.now) c.args.v (staged_ahead (here c.args.self.now.program.now c.args.self.now.limit c.args.self.now.depth) (consumers_of c.args.consumers.now) (scope_of c.args.scope.now) c.args.stage.now.form (drop c.args.from c.args.stages.now) c.args.v) (seen c.args.state.now) (stage_is c.args.self.now.program.now c.args.self.now.limit c.args.self.now.depth (consumers_of c.args.consumers.now) (region_of c.args.region.now) (scope_of c.args.scope.now) c.args.stage.now (drop c.args.from c.args.stages.now) c.args.v (seen c.args.state.now)) (seen c.enter_iteration.new.state) _ (c.in_err-saved.ensures.told known)
+unfolding bind pure
+parallel_stage-returns-in_err-saved g t c =
+    let next = stage_is c.args.self.now.program.now c.args.self.now.limit c.args.self.now.depth (consumers_of c.args.consumers.now) (region_of c.args.region.now) (scope_of c.args.scope.now) c.args.stage.now (drop c.args.from c.args.stages.now) c.args.v (seen c.args.state.now) in
+    grind (arith, common_steps, next)
 
 pub parallel_stage-returns-in_err-flow : goal.parallel_stage-returns-in_err-flow
-parallel_stage-returns-in_err-flow g t c = λ known. item_stops (region_of c.args.region.now) c.args.v (staged_ahead (here c.args.self.now.program.now c.args.self.now.limit c.args.self.now.depth) (consumers_of c.args.consumers.now) (scope_of c.args.scope.now) c.args.stage.now.form (drop c.args.from c.args.stages.now) c.args.v) (seen c.args.state.now) (stage_is c.args.self.now.program.now c.args.self.now.limit c.args.self.now.depth (consumers_of c.args.consumers.now) (region_of c.args.region.now) (scope_of c.args.scope.now) c.args.stage.now (drop c.args.from c.args.stages.now) c.args.v (seen c.args.state.now)) (seen c.enter_iteration.new.state) (seen c.perform_ahead.new.state) (saved_of c.in_ok-saved.saved) _ c.in_ok-saved.ensures.told (c.in_err-flow.ensures known)
+unfolding bind pure
+parallel_stage-returns-in_err-flow g t c =
+    let next = stage_is c.args.self.now.program.now c.args.self.now.limit c.args.self.now.depth (consumers_of c.args.consumers.now) (region_of c.args.region.now) (scope_of c.args.scope.now) c.args.stage.now (drop c.args.from c.args.stages.now) c.args.v (seen c.args.state.now) in
+    grind (arith, common_steps, next)
 
 pub parallel_stage-returns-in_err-leave_iteration : goal.parallel_stage-returns-in_err-leave_iteration
-parallel_stage-returns-in_err-leave_iteration g t c = λ known. item_stops_after (region_of c.args.region.now) c.args.v (staged_ahead (here c.args.self.now.program.now c.args.self.now.limit c.args.self.now.depth) (consumers_of c.args.consumers.now) (scope_of c.args.scope.now) c.args.stage.now.form (drop c.args.from c.args.stages.now) c.args.v) (seen c.args.state.now) (stage_is c.args.self.now.program.now c.args.self.now.limit c.args.self.now.depth (consumers_of c.args.consumers.now) (region_of c.args.region.now) (scope_of c.args.scope.now) c.args.stage.now (drop c.args.from c.args.stages.now) c.args.v (seen c.args.state.now)) (seen c.enter_iteration.new.state) (seen c.perform_ahead.new.state) (seen c.leave_iteration.new.state) (saved_of c.in_ok-saved.saved) (flow_of c.in_ok-flow.flow) _ c.in_ok-saved.ensures.told c.in_ok-flow.ensures (c.in_err-leave_iteration.ensures known)
+unfolding bind pure
+parallel_stage-returns-in_err-leave_iteration g t c =
+    let next = stage_is c.args.self.now.program.now c.args.self.now.limit c.args.self.now.depth (consumers_of c.args.consumers.now) (region_of c.args.region.now) (scope_of c.args.scope.now) c.args.stage.now (drop c.args.from c.args.stages.now) c.args.v (seen c.args.state.now) in
+    grind (arith, common_steps, next)
 
 pub perform_inside-returns : goal.perform_inside-returns
 perform_inside-returns g t c = region_gives (staged (here c.args.self.now.program.now c.args.self.now.limit c.args.self.now.depth) (consumers_of c.args.consumers.now) (scope_of c.args.scope.now) c.args.form.now (Some (region_of c.args.region.now)) (drop c.args.from c.args.stages.now) c.args.v) (seen c.args.state.now) (seen c.start_region-begun.new.state) c.start_region-begun.result.outside c.start_region-begun.result.reached c.start_region-begun.ensures.new c.start_region-begun.ensures.outside c.start_region-begun.ensures.reached (seen c.perform.new.state) (seen c.finish_region.new.state) (flow_of c.in_ok-flow.flow) c.in_ok-flow.ensures c.in_ok-finish_region.ensures
 
 pub perform_inside-returns-in_err-flow : goal.perform_inside-returns-in_err-flow
-perform_inside-returns-in_err-flow g t c = λ known. region_stops (staged (here c.args.self.now.program.now c.args.self.now.limit c.args.self.now.depth) (consumers_of c.args.consumers.now) (scope_of c.args.scope.now) c.args.form.now (Some (region_of c.args.region.now)) (drop c.args.from c.args.stages.now) c.args.v) (seen c.args.state.now) (seen c.start_region-begun.new.state) c.start_region-begun.result.outside c.start_region-begun.result.reached c.start_region-begun.ensures.new c.start_region-begun.ensures.outside c.start_region-begun.ensures.reached (seen c.perform.new.state) _ (c.in_err-flow.ensures known)
+unfolding bind pure
+perform_inside-returns-in_err-flow g t c =
+    let next = begins (staged (here c.args.self.now.program.now c.args.self.now.limit c.args.self.now.depth) (consumers_of c.args.consumers.now) (scope_of c.args.scope.now) c.args.form.now (Some (region_of c.args.region.now)) (drop c.args.from c.args.stages.now) c.args.v) (seen c.args.state.now) (seen c.start_region-begun.new.state) c.start_region-begun.result.outside c.start_region-begun.result.reached c.start_region-begun.ensures.new c.start_region-begun.ensures.outside c.start_region-begun.ensures.reached in
+    grind (arith, common_steps, next)
 
 pub perform_inside-returns-in_err-finish_region : goal.perform_inside-returns-in_err-finish_region
-perform_inside-returns-in_err-finish_region g t c = λ known. region_stops_after (staged (here c.args.self.now.program.now c.args.self.now.limit c.args.self.now.depth) (consumers_of c.args.consumers.now) (scope_of c.args.scope.now) c.args.form.now (Some (region_of c.args.region.now)) (drop c.args.from c.args.stages.now) c.args.v) (seen c.args.state.now) (seen c.start_region-begun.new.state) c.start_region-begun.result.outside c.start_region-begun.result.reached c.start_region-begun.ensures.new c.start_region-begun.ensures.outside c.start_region-begun.ensures.reached (seen c.perform.new.state) (seen c.finish_region.new.state) (flow_of c.in_ok-flow.flow) _ c.in_ok-flow.ensures (c.in_err-finish_region.ensures known)
+unfolding bind pure
+perform_inside-returns-in_err-finish_region g t c =
+    let next = begins (staged (here c.args.self.now.program.now c.args.self.now.limit c.args.self.now.depth) (consumers_of c.args.consumers.now) (scope_of c.args.scope.now) c.args.form.now (Some (region_of c.args.region.now)) (drop c.args.from c.args.stages.now) c.args.v) (seen c.args.state.now) (seen c.start_region-begun.new.state) c.start_region-begun.result.outside c.start_region-begun.result.reached c.start_region-begun.ensures.new c.start_region-begun.ensures.outside c.start_region-begun.ensures.reached in
+    grind (arith, common_steps, next)
 
 pub perform_ahead-returns-in-None : goal.perform_ahead-returns-in-None
 perform_ahead-returns-in-None g t c = subst (λ (o : Outcome Flow). TellsFlow o c.perform.result c.perform.new.state) (sym (ahead_none (here c.args.self.now.program.now c.args.self.now.limit c.args.self.now.depth) (consumers_of c.args.consumers.now) (scope_of c.args.scope.now) (λ r. staged (here c.args.self.now.program.now c.args.self.now.limit c.args.self.now.depth) (consumers_of c.args.consumers.now) (scope_of c.args.scope.now) c.args.form.now r (drop c.args.from c.args.stages.now) c.args.v) (parallel_part (drop c.args.from c.args.stages.now)) (seen c.args.state.now) c.in-None.ensures)) c.perform.ensures

@@ -14,14 +14,20 @@ use Rattle.source_meaning.specs.Scopes.{scope_of}
 use Rattle.source_meaning.specs.Tasks.{here, consumers_of, region_at, region_of}
 use Rattle.source_meaning.proofs.Turns.{loop_begins, turn_next}
 use Rattle.source_meaning.proofs.Ahead.{ahead_some, ahead_none, through_next, through_end}
-use Rattle.source_meaning.proofs.Apart.{region_gives, region_stops, region_stops_after, item_gives, item_stops_before, item_stops, item_stops_after, stage_is, stage_above}
+use Rattle.source_meaning.proofs.Apart.{begins, region_gives, region_stops, region_stops_after, item_gives, item_stops_before, item_stops, item_stops_after, stage_is, stage_above}
 use Rattle.source_meaning.proofs.runner.Runner.pipeline_inside.Goals as goal
 
 pub returns : goal.returns
 returns g c = region_gives (from_head (here c.args.self.now.program.now c.args.self.now.limit c.args.self.now.depth) (consumers_of c.args.consumers.now) (scope_of c.args.scope.now) c.args.head.now c.args.stages.now (Some (region_of c.args.region.now))) (seen c.args.state.now) (seen c.start_region-begun.new.state) c.start_region-begun.result.outside c.start_region-begun.result.reached c.start_region-begun.ensures.new c.start_region-begun.ensures.outside c.start_region-begun.ensures.reached (seen c.from_head.new.state) (seen c.finish_region.new.state) (flow_of c.in_ok-flow.flow) c.in_ok-flow.ensures c.in_ok-finish_region.ensures
 
 pub returns-in_err-flow : goal.returns-in_err-flow
-returns-in_err-flow g c = λ known. region_stops (from_head (here c.args.self.now.program.now c.args.self.now.limit c.args.self.now.depth) (consumers_of c.args.consumers.now) (scope_of c.args.scope.now) c.args.head.now c.args.stages.now (Some (region_of c.args.region.now))) (seen c.args.state.now) (seen c.start_region-begun.new.state) c.start_region-begun.result.outside c.start_region-begun.result.reached c.start_region-begun.ensures.new c.start_region-begun.ensures.outside c.start_region-begun.ensures.reached (seen c.from_head.new.state) _ (c.in_err-flow.ensures known)
+unfolding bind pure
+returns-in_err-flow g c =
+    let next = begins (from_head (here c.args.self.now.program.now c.args.self.now.limit c.args.self.now.depth) (consumers_of c.args.consumers.now) (scope_of c.args.scope.now) c.args.head.now c.args.stages.now (Some (region_of c.args.region.now))) (seen c.args.state.now) (seen c.start_region-begun.new.state) c.start_region-begun.result.outside c.start_region-begun.result.reached c.start_region-begun.ensures.new c.start_region-begun.ensures.outside c.start_region-begun.ensures.reached in
+    grind (arith, common_steps, next)
 
 pub returns-in_err-finish_region : goal.returns-in_err-finish_region
-returns-in_err-finish_region g c = λ known. region_stops_after (from_head (here c.args.self.now.program.now c.args.self.now.limit c.args.self.now.depth) (consumers_of c.args.consumers.now) (scope_of c.args.scope.now) c.args.head.now c.args.stages.now (Some (region_of c.args.region.now))) (seen c.args.state.now) (seen c.start_region-begun.new.state) c.start_region-begun.result.outside c.start_region-begun.result.reached c.start_region-begun.ensures.new c.start_region-begun.ensures.outside c.start_region-begun.ensures.reached (seen c.from_head.new.state) (seen c.finish_region.new.state) (flow_of c.in_ok-flow.flow) _ c.in_ok-flow.ensures (c.in_err-finish_region.ensures known)
+unfolding bind pure
+returns-in_err-finish_region g c =
+    let next = begins (from_head (here c.args.self.now.program.now c.args.self.now.limit c.args.self.now.depth) (consumers_of c.args.consumers.now) (scope_of c.args.scope.now) c.args.head.now c.args.stages.now (Some (region_of c.args.region.now))) (seen c.args.state.now) (seen c.start_region-begun.new.state) c.start_region-begun.result.outside c.start_region-begun.result.reached c.start_region-begun.ensures.new c.start_region-begun.ensures.outside c.start_region-begun.ensures.reached in
+    grind (arith, common_steps, next)
