@@ -50,12 +50,12 @@ impl<'m, F: Fn(Global, &Prepared<'_>, u64, u32, &mut State, &[Consumer<'_>], Tas
     {
         match task {
             Task::Enter(scope, body) => self.block(state, consumers, &scope, body),
-            Task::Turn(consumer, v) => self.turn(state, consumers, consumer, v),
+            Task::Turn(consumer, v) => self.consume(state, consumers, consumer, v),
         }
     }
 
     /// What a consumer does with an item.
-    fn turn(&self, state: &mut State, consumers: &[Consumer<'_>], consumer: Consumer<'_>, v: Value) -> Result<Flow, Stop>
+    fn consume(&self, state: &mut State, consumers: &[Consumer<'_>], consumer: Consumer<'_>, v: Value) -> Result<Flow, Stop>
         requires { Nests self.now.program.now self.now.limit self.now.depth (F.pre self.now.low) (F.post self.now.low) }
         ensures { TellsFlow (turn_of (here self.now.program.now self.now.limit self.now.depth) (consumers_of consumers.now) (consumer_of consumer.entry) v (seen state.old)) result state.new }
     {
