@@ -16,7 +16,7 @@ use Rattle.source_meaning.specs.Loops.{Iterable, Items, Generated}
 use Rattle.source_meaning.specs.Bodies.{yields}
 use Rattle.source_meaning.specs.Variables.{read_name}
 use Rattle.source_meaning.specs.Calls.{call, construct}
-use Rattle.source_meaning.specs.Expressions.{exprs, call_builtin, not_set}
+use Rattle.source_meaning.specs.Expressions.{expr, exprs, call_builtin, not_set}
 use Rattle.source_meaning.specs.Printing.{print_after}
 use Rattle.source_meaning.specs.Pipelines.{loop_over, call_stage, perform, joined, through, ahead_of, parallel_part}
 
@@ -78,3 +78,7 @@ module _ (here : Setting) (consumers : List Consumer) (scope : Scope) where
   -- a value that reaches a stage of a region
   abbrev pub reached_stage : StageForm → Option Region → List Stage → Value → Run Flow
   reached_stage form region more v = joined here consumers scope InParallel region more (λ r. staged form r more v) v
+
+  -- the stages on the value of a head
+  abbrev pub headed_by : Expr → Option Region → List Stage → Run Flow
+  headed_by head region stages = expr here scope head >>= through here consumers scope region stages

@@ -1,6 +1,6 @@
 #![tactic(auto, unfolding(crate::specs::Outcome::bind, crate::specs::Outcome::pure, crate::specs::Outcome::stop))]
 
-ghost use Rattle.std.specs.Prelude.{drop, []};
+ghost use Rattle.std.specs.Prelude.{◌≡◌, drop, []};
 ghost use Rattle.source_meaning.specs.Pipelines as spec;
 ghost use Rattle.source_meaning.specs.Callees.{builtin_of};
 ghost use Rattle.source_meaning.specs.Expressions.{call_builtin};
@@ -10,7 +10,7 @@ ghost use Rattle.source_meaning.specs.Scopes.{scope_of};
 ghost use Rattle.source_meaning.specs.Passed.{passed_of};
 ghost use Rattle.source_meaning.specs.Seen.{seen, Tells, TellsBy, TellsFlow};
 ghost use Rattle.source_meaning.specs.Regions.{headed_inside, staged_apart, staged_inside};
-ghost use Rattle.source_meaning.specs.Stages.{staged, staged_ahead, stage_loop, whole_loop, given_to, called_stage, printed_stage, passed, reached_stage};
+ghost use Rattle.source_meaning.specs.Stages.{staged, staged_ahead, stage_loop, whole_loop, given_to, called_stage, printed_stage, passed, reached_stage, headed_by};
 ghost use Rattle.source_meaning.specs.Steps.{iterable_of, looped, turns_from};
 ghost use Rattle.source_meaning.specs.Task.{Stages};
 ghost use Rattle.source_meaning.specs.Tasks.{Nests, here, consumers_of, region_at, region_of, program_of};
@@ -29,7 +29,7 @@ use crate::stages::parallel_place;
 use crate::state::{State, Stop};
 use crate::task::{Consumer, Region, Task};
 use crate::variables::{fault, left, read_name, tick, wrong};
-use codon_base::{FaultKind, Spelling, Value, Values};
+use codon_base::{FaultKind, Memory, Spelling, Value, Values};
 use source_trees::{Expr, Joint, Printed, Stage, StageForm};
 use sqlite_items::Items;
 use std::alloc::Global;
@@ -44,6 +44,26 @@ enum Passed {
 /// How many loops of stages may be made in place one inside the other. The native stack bounds them.
 const MOST_NESTED: u32 = 256;
 
+/// A loop of stages begins inside of those that run.
+#[tactic(auto, unfolding(crate::specs::Seen::seen))]
+fn nest(state: &mut State) -> Result<(), Memory>
+    ensures { seen state.new ≡ seen state.old }
+{
+    if state.nested >= MOST_NESTED {
+        return Err(Memory);
+    }
+    state.nested += 1;
+    Ok(())
+}
+
+/// The innermost loop of stages ends.
+#[tactic(auto, unfolding(crate::specs::Seen::seen))]
+fn unnest(state: &mut State)
+    ensures { seen state.new ≡ seen state.old }
+{
+    state.nested = state.nested.saturating_sub(1);
+}
+
 impl<'m, F: Fn(Global, &Prepared<'_>, u64, u32, &mut State, &[Consumer<'_>], Task<'_>) -> Result<Flow, Stop>> Runner<'m, F> {
     /// A pipeline statement.
     pub(crate) fn pipeline(&self, state: &mut State, consumers: &[Consumer<'_>], scope: &Scope<'_>, head: &Expr, stages: &Items<Stage>) -> Result<Flow, Stop>
@@ -52,8 +72,10 @@ impl<'m, F: Fn(Global, &Prepared<'_>, u64, u32, &mut State, &[Consumer<'_>], Tas
     {
         match parallel_place(stages.as_slice(), 0) {
             Some(place) => {
-                let region = begin_stages(self.alloc, state, self.program, scope, stages, place)?;
-                self.pipeline_inside(state, consumers, scope, head, stages, &region)
+                match begin_stages(self.alloc, state, self.program, scope, stages, place) {
+                    Ok(region) => self.pipeline_inside(state, consumers, scope, head, stages, &region),
+                    Err(why) => Err(why),
+                }
             }
             None => self.from_head(state, consumers, scope, head, stages, None),
         }
@@ -75,12 +97,35 @@ impl<'m, F: Fn(Global, &Prepared<'_>, u64, u32, &mut State, &[Consumer<'_>], Tas
         requires { Nests self.now.program.now self.now.limit self.now.depth (F.pre self.now.low) (F.post self.now.low) }
         ensures { TellsFlow (spec.from_head (here self.now.program.now self.now.limit self.now.depth) (consumers_of consumers.now) (scope_of scope.now) head.now stages.now (region_at region.entry) (seen state.old)) result state.new }
     {
-        if let Some(stage) = stages.get(0) {
-            if let (Joint::InTurn, StageForm::Iter) = (stage.joint, &stage.form) {
-                let goes_over = self.iterable(state, scope, head)?;
-                return self.head_loop(state, consumers, scope, goes_over, region, stages);
-            }
+        match stages.get(0) {
+            Some(stage) => self.from_first(state, consumers, scope, head, stage, stages, region),
+            None => self.from_value(state, consumers, scope, head, stages, region),
         }
+    }
+
+    /// The head of a pipeline with its stages, of which this is the first.
+    fn from_first(&self, state: &mut State, consumers: &[Consumer<'_>], scope: &Scope<'_>, head: &Expr, first: &Stage, stages: &Items<Stage>, region: Option<&Region>) -> Result<Flow, Stop>
+        requires { Nests self.now.program.now self.now.limit self.now.depth (F.pre self.now.low) (F.post self.now.low) }
+        ensures { TellsFlow (spec.first_stage (here self.now.program.now self.now.limit self.now.depth) (consumers_of consumers.now) (scope_of scope.now) head.now first.now.joint first.now.form (region_at region.entry) (drop 1 stages.now) stages.now (seen state.old)) result state.new }
+    {
+        match first.joint {
+            Joint::InParallel => self.from_value(state, consumers, scope, head, stages, region),
+            Joint::InTurn => match &first.form {
+                StageForm::Iter => {
+                    let goes_over = self.iterable(state, scope, head)?;
+                    self.head_loop(state, consumers, scope, goes_over, region, stages)
+                }
+                StageForm::Call(_, _, _) => self.from_value(state, consumers, scope, head, stages, region),
+                StageForm::Print(_) => self.from_value(state, consumers, scope, head, stages, region),
+            },
+        }
+    }
+
+    /// The value of the head of a pipeline, on which its stages are.
+    fn from_value(&self, state: &mut State, consumers: &[Consumer<'_>], scope: &Scope<'_>, head: &Expr, stages: &Items<Stage>, region: Option<&Region>) -> Result<Flow, Stop>
+        requires { Nests self.now.program.now self.now.limit self.now.depth (F.pre self.now.low) (F.post self.now.low) }
+        ensures { TellsFlow (headed_by (here self.now.program.now self.now.limit self.now.depth) (consumers_of consumers.now) (scope_of scope.now) head.now (region_at region.entry) stages.now (seen state.old)) result state.new }
+    {
         let v = self.expr(state, scope, head)?;
         self.through(state, consumers, scope, region, stages, 0, v)
     }
@@ -107,12 +152,19 @@ impl<'m, F: Fn(Global, &Prepared<'_>, u64, u32, &mut State, &[Consumer<'_>], Tas
                 return Ok(ended(End::Next));
             };
             at += 1;
-            if let Joint::InParallel = stage.joint {
-                return self.joined(state, consumers, scope, region, stage, stages, at, passed);
-            }
-            match self.pass(state, consumers, scope, &stage.form, region, stages, at, passed)? {
-                Passed::On(v) => passed = v,
-                Passed::Left(flow) => return Ok(flow),
+            match stage.joint {
+                Joint::InParallel => {
+                    return self.joined(state, consumers, scope, region, stage, stages, at, passed);
+                }
+                Joint::InTurn => {
+                    match self.pass(state, consumers, scope, &stage.form, region, stages, at, passed) {
+                        Ok(came) => match came {
+                            Passed::On(v) => passed = v,
+                            Passed::Left(flow) => return Ok(flow),
+                        },
+                        Err(why) => return Err(why),
+                    }
+                }
             }
         }
         Ok(ended(End::Next))
@@ -152,8 +204,10 @@ impl<'m, F: Fn(Global, &Prepared<'_>, u64, u32, &mut State, &[Consumer<'_>], Tas
     {
         match parallel_place(stages.as_slice(), from) {
             Some(place) => {
-                let region = begin_stages(self.alloc, state, self.program, scope, stages, place)?;
-                self.perform_inside(state, consumers, scope, form, &region, stages, from, v)
+                match begin_stages(self.alloc, state, self.program, scope, stages, place) {
+                    Ok(region) => self.perform_inside(state, consumers, scope, form, &region, stages, from, v),
+                    Err(why) => Err(why),
+                }
             }
             None => self.perform(state, consumers, scope, form, None, stages, from, v),
         }
@@ -177,9 +231,12 @@ impl<'m, F: Fn(Global, &Prepared<'_>, u64, u32, &mut State, &[Consumer<'_>], Tas
         requires { Nests self.now.program.now self.now.limit self.now.depth (F.pre self.now.low) (F.post self.now.low) }
         ensures { TellsFlow (staged (here self.now.program.now self.now.limit self.now.depth) (consumers_of consumers.now) (scope_of scope.now) form.now (region_at region.entry) (drop from stages.now) v (seen state.old)) result state.new }
     {
-        match self.pass(state, consumers, scope, form, region, stages, from, v)? {
-            Passed::On(v) => self.through(state, consumers, scope, region, stages, from, v),
-            Passed::Left(flow) => Ok(flow),
+        match self.pass(state, consumers, scope, form, region, stages, from, v) {
+            Ok(came) => match came {
+                Passed::On(v) => self.through(state, consumers, scope, region, stages, from, v),
+                Passed::Left(flow) => Ok(flow),
+            },
+            Err(why) => Err(why),
         }
     }
 
@@ -290,15 +347,24 @@ impl<'m, F: Fn(Global, &Prepared<'_>, u64, u32, &mut State, &[Consumer<'_>], Tas
         ensures { TellsFlow (looped (here self.now.program.now self.now.limit self.now.depth) (consumers_of consumers.now) (iterable_of goes_over.entry) (Stages (scope_of scope.now) (region_at region.entry) (drop from stages.now)) (seen state.old)) result state.new }
     {
         let mut cursor = Cursor::Ended;
-        if let Some(flow) = self.enter_loop(state, consumers, Consumer::Stages(*scope, region, stages, from), goes_over, &mut cursor)? {
-            return Ok(flow);
+        match self.enter_loop(state, consumers, Consumer::Stages(*scope, region, stages, from), goes_over, &mut cursor) {
+            Ok(entered) => match entered {
+                Some(flow) => Ok(flow),
+                None => self.turns_within(state, consumers, scope, cursor, region, stages, from),
+            },
+            Err(why) => Err(why),
         }
-        if state.nested >= MOST_NESTED {
-            return Err(Stop::Memory);
-        }
-        state.nested += 1;
-        let flow = self.turns_through(state, consumers, scope, cursor, region, stages, from)?;
-        state.nested = state.nested.saturating_sub(1);
+    }
+
+    /// The turns of a loop in place, inside of those that run.
+    #[cycle(pipeline)]
+    fn turns_within(&self, state: &mut State, consumers: &[Consumer<'_>], scope: &Scope<'_>, begins: Cursor, region: Option<&Region>, stages: &Items<Stage>, from: usize) -> Result<Flow, Stop>
+        requires { Nests self.now.program.now self.now.limit self.now.depth (F.pre self.now.low) (F.post self.now.low) }
+        ensures { TellsFlow (turns_from (here self.now.program.now self.now.limit self.now.depth) (turn_of (here self.now.program.now self.now.limit self.now.depth) (consumers_of consumers.now) (Stages (scope_of scope.now) (region_at region.entry) (drop from stages.now))) begins (seen state.old)) result state.new }
+    {
+        nest(state)?;
+        let flow = self.turns_through(state, consumers, scope, begins, region, stages, from)?;
+        unnest(state);
         Ok(flow)
     }
 
