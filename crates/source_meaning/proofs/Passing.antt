@@ -14,13 +14,13 @@ use Rattle.source_meaning.specs.Outcome.{Outcome, Gives, Stops, Run, and_then, b
 use Rattle.source_meaning.specs.Bodies.{yields}
 use Rattle.source_meaning.specs.Program.{Scope, Known, Callee, Defined, Constructor, Standard, Variable, Unknown, callee}
 use Rattle.source_meaning.specs.Task.{Region, Consumer, Setting}
-use Rattle.source_meaning.specs.Loops.{Iterable, Items, Generated}
+use Rattle.source_meaning.specs.Loops.{Items, Generated}
 use Rattle.source_meaning.specs.Variables.{read_name}
 use Rattle.source_meaning.specs.Calls.{call, construct}
-use Rattle.source_meaning.specs.Expressions.{expr, exprs, call_builtin, not_set}
+use Rattle.source_meaning.specs.Expressions.{expr, exprs, call_builtin}
 use Rattle.source_meaning.specs.Printing.{print_after}
 use Rattle.source_meaning.specs.Pipelines.{joined, through, first_stage, from_head}
-use Rattle.source_meaning.specs.Stages.{Passed, On, Ended, staged, stage_called, stage_loop, whole_loop, given_to, called_stage, printed_stage, passed, resumed, reached_stage}
+use Rattle.source_meaning.specs.Stages.{Passed, On, Ended, staged, stage_called, stage_loop, whole_loop, called_stage, passed, resumed, reached_stage}
 use Rattle.source_meaning.proofs.Ahead.{through_next}
 
 module _ (here : Setting) (consumers : List Consumer) (scope : Scope) (region : Option Region) (more : List Stage) where

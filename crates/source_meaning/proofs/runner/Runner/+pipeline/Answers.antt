@@ -1,4 +1,4 @@
-use Rattle.std.proofs.Common.{◌≡◌, ◌<◌, ◌≤◌, ◌+◌, ◌∙◌, ap, sym, subst, arith, rules, List, [], length, drop, Option, Some, None}
+use Rattle.std.proofs.Common.{◌≡◌, ◌<◌, ◌≤◌, ◌+◌, ◌∙◌, ap, sym, subst, arith, List, [], length, drop, Option, Some}
 use Rattle.source_trees.specs.declared.pipeline.Stage.{Stage}
 use Rattle.std.proofs.lemmas.Grind.{common_steps}
 use Rattle.source_meaning.specs.State.{State, Flow}
@@ -7,7 +7,7 @@ use Rattle.source_meaning.specs.Iterations.{in_place}
 use Rattle.source_meaning.specs.Cursors.{next_by}
 use Rattle.source_meaning.specs.Meaning.{turn_of}
 use Rattle.source_meaning.specs.Inside.{saved_of, entering}
-use Rattle.source_meaning.specs.Pipelines.{parallel_part, from_head}
+use Rattle.source_meaning.specs.Pipelines.{parallel_part}
 use Rattle.source_meaning.specs.Stages.{Ended, staged, staged_ahead}
 use Rattle.source_meaning.specs.Loops.{after_loop}
 use Rattle.source_meaning.specs.Steps.{turns_from}
@@ -16,9 +16,9 @@ use Rattle.source_meaning.specs.Seen.{seen, flow_of, why_of, TellsFlow}
 use Rattle.source_meaning.specs.Scopes.{scope_of}
 use Rattle.source_meaning.specs.Tasks.{here, consumers_of, region_at, region_of}
 use Rattle.source_meaning.proofs.Turns.{loop_begins, turn_next}
-use Rattle.source_meaning.proofs.Ahead.{ahead_some, ahead_none, through_end}
+use Rattle.source_meaning.proofs.Ahead.{ahead_some, ahead_none}
 use Rattle.source_meaning.proofs.Passing.{staged_on, staged_left, staged_stops, reaches_next, passes_on, passes_left, passes_none}
-use Rattle.source_meaning.proofs.Apart.{begins, region_gives, region_stops, region_stops_after, item_gives, item_stops_before, item_stops, item_stops_after, stage_is, stage_above}
+use Rattle.source_meaning.proofs.Apart.{begins, region_gives, item_gives, stage_is, stage_above}
 use Rattle.source_meaning.proofs.runner.Runner.+pipeline.Goals as goal
 
 pub turns_through-turns-init : goal.turns_through-turns-init

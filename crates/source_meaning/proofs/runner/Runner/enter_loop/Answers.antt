@@ -1,4 +1,4 @@
-use Rattle.std.proofs.Common.{◌≡◌, ap, ◌∙◌}
+use Rattle.std.proofs.Common.{ap, ◌∙◌}
 use Rattle.source_meaning.specs.Seen.{seen, why_of}
 use Rattle.source_meaning.specs.Steps.{iterable_of, looped}
 use Rattle.source_meaning.specs.Tasks.{here, consumer_of, consumers_of}

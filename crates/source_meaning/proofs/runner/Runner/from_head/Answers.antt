@@ -1,4 +1,4 @@
-use Rattle.std.proofs.Common.{◌≡◌, sym, subst}
+use Rattle.std.proofs.Common.{sym, subst}
 use Rattle.source_meaning.specs.Outcome.{Outcome}
 use Rattle.source_meaning.specs.State.{Flow}
 use Rattle.source_meaning.specs.Seen.{seen, TellsFlow}

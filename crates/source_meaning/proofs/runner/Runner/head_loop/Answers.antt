@@ -1,4 +1,4 @@
-use Rattle.std.proofs.Common.{◌≡◌, ◌∙◌, ap, sym}
+use Rattle.std.proofs.Common.{◌∙◌, ap, sym}
 use Rattle.source_meaning.specs.State.{Flow}
 use Rattle.source_meaning.specs.Outcome.{Outcome, Gives, and_then, bind, pure}
 use Rattle.source_meaning.specs.Loops.{after_loop}

@@ -1,4 +1,4 @@
-use Rattle.std.proofs.Common.{◌≡◌, arith, Some}
+use Rattle.std.proofs.Common.{arith, Some}
 use Rattle.std.proofs.lemmas.Grind.{common_steps}
 use Rattle.source_meaning.specs.Outcome.{bind, pure}
 use Rattle.source_meaning.specs.Pipelines.{from_head}
