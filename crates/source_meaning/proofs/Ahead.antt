@@ -1,16 +1,16 @@
 -- Stages in which a region may begin, and stages one by one.
-use Rattle.std.proofs.Common.{◌≡◌, ◌<◌, ◌≤◌, ℕ, ◌+◌, List, [], ◌∷◌, length, drop, get_or, slice_get, Option, Some, None, absurd, refl, sym, ap, ◌∙◌, arith}
+use Rattle.std.proofs.Common.{◌≡◌, ◌<◌, ℕ, ◌+◌, List, [], ◌∷◌, length, drop, get_or, Option, Some, None, refl, ap, ◌∙◌, arith}
 use Rattle.std.proofs.lemmas.List.{length-drop}
 use Rattle.codon_base.specs.declared.value.Value.{Value}
 use Rattle.source_trees.specs.declared.pipeline.Stage.{Stage}
-use Rattle.source_meaning.specs.State.{State, Flow, Next}
-use Rattle.source_meaning.specs.Outcome.{Gives, Run, pure, ◌>>=◌}
+use Rattle.source_meaning.specs.State.{State, Flow}
+use Rattle.source_meaning.specs.Outcome.{Run, ◌>>=◌}
 use Rattle.source_meaning.specs.Mentions.{notes_of_stages}
 use Rattle.source_meaning.specs.Captures.{begin}
 use Rattle.source_meaning.specs.Program.{Scope}
 use Rattle.source_meaning.specs.Task.{Region, Consumer, Setting}
 use Rattle.source_meaning.specs.Pipelines.{ahead_of, joined, perform, through}
-use Rattle.source_meaning.proofs.Rest.{drop_next, drop_end}
+use Rattle.source_meaning.proofs.Rest.{drop_next}
 
 module _ (here : Setting) (consumers : List Consumer) (scope : Scope) where
   module _ (run : Option Region → Run Flow) where
@@ -33,7 +33,3 @@ module _ (here : Setting) (consumers : List Consumer) (scope : Scope) where
   pub through_next : (region : Option Region) (stages : List Stage) (i : ℕ) (x : Stage) (v : Value) (s : State) → i < length stages → x ≡ get_or stages i x
       → through here consumers scope region (drop i stages) v s ≡ joined here consumers scope x.joint region (drop (i + 1) stages) (λ r. perform here consumers scope x.form r (drop (i + 1) stages) (through here consumers scope r (drop (i + 1) stages)) v) v s
   through_next region stages i x v s h e = ap (λ l. through here consumers scope region l v s) (drop_next stages i x h e)
-
-  pub through_end : (region : Option Region) (stages : List Stage) (i : ℕ) (v : Value) (s : State) → length stages ≤ i → through here consumers scope region (drop i stages) v s ≡ Gives Next s
-  unfolding pure
-  through_end region stages i v s h = ap (λ l. through here consumers scope region l v s) (drop_end stages i h)

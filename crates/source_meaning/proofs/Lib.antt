@@ -46,3 +46,4 @@ pub mod Apart
 pub mod Ahead
 pub mod Stepped
 pub mod Comprehensions
+pub mod Passing

@@ -40,3 +40,4 @@ pub mod Regions
 pub mod Plain
 pub mod Entered
 pub mod Forms
+pub mod Passed

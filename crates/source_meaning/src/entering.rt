@@ -56,10 +56,14 @@ impl<
                 Ok(None)
             }
             Iterable::Numbers(start, stop, step) => {
-                let from = begun(self.alloc, state, &start, &stop, &step)?;
-                is_within(&from);
-                *cursor = from;
-                Ok(None)
+                match begun(self.alloc, state, &start, &stop, &step) {
+                    Ok(from) => {
+                        is_within(&from);
+                        *cursor = from;
+                        Ok(None)
+                    }
+                    Err(why) => Err(why),
+                }
             }
         }
     }

@@ -1,27 +1,26 @@
 #![tactic(auto, unfolding(crate::specs::Outcome::bind, crate::specs::Outcome::pure, crate::specs::Outcome::stop))]
 
-ghost use Rattle.std.specs.Prelude.{drop};
+ghost use Rattle.std.specs.Prelude.{◌≡◌, drop, []};
 ghost use Rattle.source_meaning.specs.Pipelines as spec;
 ghost use Rattle.source_meaning.specs.Callees.{builtin_of};
 ghost use Rattle.source_meaning.specs.Expressions.{call_builtin};
-ghost use Rattle.source_meaning.specs.Loops.{Numbers};
 ghost use Rattle.source_meaning.specs.Meaning.{turn_of};
 ghost use Rattle.source_meaning.specs.Program.{callee, ToList};
 ghost use Rattle.source_meaning.specs.Scopes.{scope_of};
-ghost use Rattle.source_meaning.specs.Seen.{seen, Tells, TellsFlow};
+ghost use Rattle.source_meaning.specs.Passed.{passed_of};
+ghost use Rattle.source_meaning.specs.Seen.{seen, Tells, TellsBy, TellsFlow};
 ghost use Rattle.source_meaning.specs.Regions.{headed_inside, staged_apart, staged_inside};
-ghost use Rattle.source_meaning.specs.Stages.{staged, staged_ahead, stage_called, stage_loop};
+ghost use Rattle.source_meaning.specs.Stages.{staged, staged_ahead, stage_loop, whole_loop, given_to, called_stage, printed_stage, passed, reached_stage, headed_by};
 ghost use Rattle.source_meaning.specs.Steps.{iterable_of, looped, turns_from};
 ghost use Rattle.source_meaning.specs.Task.{Stages};
 ghost use Rattle.source_meaning.specs.Tasks.{Nests, here, consumers_of, region_at, region_of, program_of};
 
 use crate::captures::begin_stages;
 use crate::callee::{Builtin, Callee, resolve};
-use crate::cursor::{begun, next};
+use crate::cursor::next;
 use crate::flow::{End, Flow, after_loop, ended, goes_on};
 use crate::iterable::{Cursor, Iterable};
 use crate::iterations::{enter_iteration, finish_region, leave_iteration, start_region};
-use crate::loops::is_within;
 use crate::operations::builtin;
 use crate::prepared::Prepared;
 use crate::runner::Runner;
@@ -30,10 +29,40 @@ use crate::stages::parallel_place;
 use crate::state::{State, Stop};
 use crate::task::{Consumer, Region, Task};
 use crate::variables::{fault, left, read_name, tick, wrong};
-use codon_base::{FaultKind, Spelling, Value, Values};
-use source_trees::{Expr, Joint, Stage, StageForm};
+use codon_base::{FaultKind, Memory, Spelling, Value, Values};
+use source_trees::{Expr, Joint, Printed, Stage, StageForm};
 use sqlite_items::Items;
 use std::alloc::Global;
+
+/// What comes of a stage: a value that it passes on, or the end of a loop that it made with all that comes after it.
+#[derive(Drop)]
+enum Passed {
+    On(Value),
+    Left(Flow),
+}
+
+/// How many loops of stages may be made in place one inside the other. The native stack bounds them.
+const MOST_NESTED: u32 = 256;
+
+/// A loop of stages begins inside of those that run.
+#[tactic(auto, unfolding(crate::specs::Seen::seen))]
+fn nest(state: &mut State) -> Result<(), Memory>
+    ensures { seen state.new ≡ seen state.old }
+{
+    if state.nested >= MOST_NESTED {
+        return Err(Memory);
+    }
+    state.nested += 1;
+    Ok(())
+}
+
+/// The innermost loop of stages ends.
+#[tactic(auto, unfolding(crate::specs::Seen::seen))]
+fn unnest(state: &mut State)
+    ensures { seen state.new ≡ seen state.old }
+{
+    state.nested = state.nested.saturating_sub(1);
+}
 
 impl<'m, F: Fn(Global, &Prepared<'_>, u64, u32, &mut State, &[Consumer<'_>], Task<'_>) -> Result<Flow, Stop>> Runner<'m, F> {
     /// A pipeline statement.
@@ -43,8 +72,10 @@ impl<'m, F: Fn(Global, &Prepared<'_>, u64, u32, &mut State, &[Consumer<'_>], Tas
     {
         match parallel_place(stages.as_slice(), 0) {
             Some(place) => {
-                let region = begin_stages(self.alloc, state, self.program, scope, stages, place)?;
-                self.pipeline_inside(state, consumers, scope, head, stages, &region)
+                match begin_stages(self.alloc, state, self.program, scope, stages, place) {
+                    Ok(region) => self.pipeline_inside(state, consumers, scope, head, stages, &region),
+                    Err(why) => Err(why),
+                }
             }
             None => self.from_head(state, consumers, scope, head, stages, None),
         }
@@ -66,14 +97,46 @@ impl<'m, F: Fn(Global, &Prepared<'_>, u64, u32, &mut State, &[Consumer<'_>], Tas
         requires { Nests self.now.program.now self.now.limit self.now.depth (F.pre self.now.low) (F.post self.now.low) }
         ensures { TellsFlow (spec.from_head (here self.now.program.now self.now.limit self.now.depth) (consumers_of consumers.now) (scope_of scope.now) head.now stages.now (region_at region.entry) (seen state.old)) result state.new }
     {
-        if let Some(stage) = stages.get(0) {
-            if let (Joint::InTurn, StageForm::Iter) = (stage.joint, &stage.form) {
-                let goes_over = self.iterable(state, scope, head)?;
-                return self.stage_loop(state, consumers, scope, goes_over, region, stages, 1);
-            }
+        match stages.get(0) {
+            Some(stage) => self.from_first(state, consumers, scope, head, stage, stages, region),
+            None => self.from_value(state, consumers, scope, head, stages, region),
         }
+    }
+
+    /// The head of a pipeline with its stages, of which this is the first.
+    fn from_first(&self, state: &mut State, consumers: &[Consumer<'_>], scope: &Scope<'_>, head: &Expr, first: &Stage, stages: &Items<Stage>, region: Option<&Region>) -> Result<Flow, Stop>
+        requires { Nests self.now.program.now self.now.limit self.now.depth (F.pre self.now.low) (F.post self.now.low) }
+        ensures { TellsFlow (spec.first_stage (here self.now.program.now self.now.limit self.now.depth) (consumers_of consumers.now) (scope_of scope.now) head.now first.now.joint first.now.form (region_at region.entry) (drop 1 stages.now) stages.now (seen state.old)) result state.new }
+    {
+        match first.joint {
+            Joint::InParallel => self.from_value(state, consumers, scope, head, stages, region),
+            Joint::InTurn => match &first.form {
+                StageForm::Iter => {
+                    let goes_over = self.iterable(state, scope, head)?;
+                    self.head_loop(state, consumers, scope, goes_over, region, stages)
+                }
+                StageForm::Call(_, _, _) => self.from_value(state, consumers, scope, head, stages, region),
+                StageForm::Print(_) => self.from_value(state, consumers, scope, head, stages, region),
+            },
+        }
+    }
+
+    /// The value of the head of a pipeline, on which its stages are.
+    fn from_value(&self, state: &mut State, consumers: &[Consumer<'_>], scope: &Scope<'_>, head: &Expr, stages: &Items<Stage>, region: Option<&Region>) -> Result<Flow, Stop>
+        requires { Nests self.now.program.now self.now.limit self.now.depth (F.pre self.now.low) (F.post self.now.low) }
+        ensures { TellsFlow (headed_by (here self.now.program.now self.now.limit self.now.depth) (consumers_of consumers.now) (scope_of scope.now) head.now (region_at region.entry) stages.now (seen state.old)) result state.new }
+    {
         let v = self.expr(state, scope, head)?;
         self.through(state, consumers, scope, region, stages, 0, v)
+    }
+
+    /// A loop over the head, with the stages after the first that take its items.
+    fn head_loop(&self, state: &mut State, consumers: &[Consumer<'_>], scope: &Scope<'_>, goes_over: Iterable<'m>, region: Option<&Region>, stages: &Items<Stage>) -> Result<Flow, Stop>
+        requires { Nests self.now.program.now self.now.limit self.now.depth (F.pre self.now.low) (F.post self.now.low) }
+        ensures { TellsFlow (stage_loop (here self.now.program.now self.now.limit self.now.depth) (consumers_of consumers.now) (scope_of scope.now) (iterable_of goes_over.entry) (region_at region.entry) (drop 1 stages.now) (seen state.old)) result state.new }
+    {
+        let flow = self.looped_stages(state, consumers, scope, goes_over, region, stages, 1)?;
+        Ok(after_loop(flow))
     }
 
     /// The stages from a place on, on a value.
@@ -82,19 +145,42 @@ impl<'m, F: Fn(Global, &Prepared<'_>, u64, u32, &mut State, &[Consumer<'_>], Tas
         requires { Nests self.now.program.now self.now.limit self.now.depth (F.pre self.now.low) (F.post self.now.low) }
         ensures { TellsFlow (spec.through (here self.now.program.now self.now.limit self.now.depth) (consumers_of consumers.now) (scope_of scope.now) (region_at region.entry) (drop place stages.now) v (seen state.old)) result state.new }
     {
-        let Some(stage) = stages.get(place) else {
-            return Ok(ended(End::Next));
-        };
-        match stage.joint {
-            Joint::InTurn => self.perform(state, consumers, scope, &stage.form, region, stages, place + 1, v),
-            Joint::InParallel => {
-                let Some(region) = region else {
-                    return Err(wrong(self.alloc));
-                };
-                tick(state, self.limit)?;
-                self.parallel_stage(state, consumers, scope, region, stage, stages, place + 1, v)
+        let mut at = place;
+        let mut passed = v;
+        'stages: while at < stages.len() {
+            let Some(stage) = stages.get(at) else {
+                return Ok(ended(End::Next));
+            };
+            at += 1;
+            match stage.joint {
+                Joint::InParallel => {
+                    return self.joined(state, consumers, scope, region, stage, stages, at, passed);
+                }
+                Joint::InTurn => {
+                    match self.pass(state, consumers, scope, &stage.form, region, stages, at, passed) {
+                        Ok(came) => match came {
+                            Passed::On(v) => passed = v,
+                            Passed::Left(flow) => return Ok(flow),
+                        },
+                        Err(why) => return Err(why),
+                    }
+                }
             }
         }
+        Ok(ended(End::Next))
+    }
+
+    /// A value that reaches a stage of a region, with the stages from a place on after it.
+    #[cycle(pipeline)]
+    fn joined(&self, state: &mut State, consumers: &[Consumer<'_>], scope: &Scope<'_>, region: Option<&Region>, stage: &Stage, stages: &Items<Stage>, from: usize, v: Value) -> Result<Flow, Stop>
+        requires { Nests self.now.program.now self.now.limit self.now.depth (F.pre self.now.low) (F.post self.now.low) }
+        ensures { TellsFlow (reached_stage (here self.now.program.now self.now.limit self.now.depth) (consumers_of consumers.now) (scope_of scope.now) stage.now.form (region_at region.entry) (drop from stages.now) v (seen state.old)) result state.new }
+    {
+        let Some(region) = region else {
+            return Err(wrong(self.alloc));
+        };
+        tick(state, self.limit)?;
+        self.parallel_stage(state, consumers, scope, region, stage, stages, from, v)
     }
 
     /// The iteration of a value that reaches a stage of a region, with the stages from a place on after it.
@@ -118,8 +204,10 @@ impl<'m, F: Fn(Global, &Prepared<'_>, u64, u32, &mut State, &[Consumer<'_>], Tas
     {
         match parallel_place(stages.as_slice(), from) {
             Some(place) => {
-                let region = begin_stages(self.alloc, state, self.program, scope, stages, place)?;
-                self.perform_inside(state, consumers, scope, form, &region, stages, from, v)
+                match begin_stages(self.alloc, state, self.program, scope, stages, place) {
+                    Ok(region) => self.perform_inside(state, consumers, scope, form, &region, stages, from, v),
+                    Err(why) => Err(why),
+                }
             }
             None => self.perform(state, consumers, scope, form, None, stages, from, v),
         }
@@ -143,29 +231,58 @@ impl<'m, F: Fn(Global, &Prepared<'_>, u64, u32, &mut State, &[Consumer<'_>], Tas
         requires { Nests self.now.program.now self.now.limit self.now.depth (F.pre self.now.low) (F.post self.now.low) }
         ensures { TellsFlow (staged (here self.now.program.now self.now.limit self.now.depth) (consumers_of consumers.now) (scope_of scope.now) form.now (region_at region.entry) (drop from stages.now) v (seen state.old)) result state.new }
     {
-        match form {
-            StageForm::Iter => self.stage_loop(state, consumers, scope, Iterable::Items(v), region, stages, from),
-            StageForm::Call(name, before, behind) => {
-                let mut given = self.exprs(state, scope, before.as_slice())?;
-                let more = self.exprs(state, scope, behind.as_slice())?;
-                given.push(v)?;
-                given.append(more)?;
-                self.call_stage(state, consumers, scope, name, given, region, stages, from)
-            }
-            StageForm::Print(printed) => {
-                let mut piped = Items::new(self.alloc);
-                piped.push(v)?;
-                self.print_after(state, scope, piped, printed)?;
-                self.through(state, consumers, scope, region, stages, from, Value::Unit)
-            }
+        match self.pass(state, consumers, scope, form, region, stages, from, v) {
+            Ok(came) => match came {
+                Passed::On(v) => self.through(state, consumers, scope, region, stages, from, v),
+                Passed::Left(flow) => Ok(flow),
+            },
+            Err(why) => Err(why),
         }
     }
 
-    /// A stage by name on its arguments, and the stages from a place on.
+    /// What a stage does with a value. A loop is made whole, with the stages from a place on.
     #[cycle(pipeline)]
-    fn call_stage(&self, state: &mut State, consumers: &[Consumer<'_>], scope: &Scope<'_>, name: &Spelling, given: Values, region: Option<&Region>, stages: &Items<Stage>, from: usize) -> Result<Flow, Stop>
+    fn pass(&self, state: &mut State, consumers: &[Consumer<'_>], scope: &Scope<'_>, form: &StageForm, region: Option<&Region>, stages: &Items<Stage>, from: usize, v: Value) -> Result<Passed, Stop>
         requires { Nests self.now.program.now self.now.limit self.now.depth (F.pre self.now.low) (F.post self.now.low) }
-        ensures { TellsFlow (stage_called (here self.now.program.now self.now.limit self.now.depth) (consumers_of consumers.now) (scope_of scope.now) (callee (program_of self.now.program.now) (scope_of scope.now) name.now) name.now given (region_at region.entry) (drop from stages.now) (seen state.old)) result state.new }
+        ensures { TellsBy passed_of (passed (here self.now.program.now self.now.limit self.now.depth) (consumers_of consumers.now) (scope_of scope.now) form.now (region_at region.entry) (drop from stages.now) v (seen state.old)) result state.new }
+    {
+        match form {
+            StageForm::Iter => self.stage_loop(state, consumers, scope, Iterable::Items(v), region, stages, from),
+            StageForm::Call(name, before, behind) => {
+                let given = self.given_to(state, scope, before.as_slice(), v, behind.as_slice())?;
+                self.call_stage(state, consumers, scope, name, given, region, stages, from)
+            }
+            StageForm::Print(printed) => self.print_stage(state, scope, printed, v),
+        }
+    }
+
+    /// The arguments of a stage, with the piped value among them.
+    fn given_to(&self, state: &mut State, scope: &Scope<'_>, before: &[Expr], v: Value, behind: &[Expr]) -> Result<Values, Stop>
+        requires { Nests self.now.program.now self.now.limit self.now.depth (F.pre self.now.low) (F.post self.now.low) }
+        ensures { Tells (given_to (here self.now.program.now self.now.limit self.now.depth) [] (scope_of scope.now) before.now v behind.now (seen state.old)) result state.new }
+    {
+        let mut given = self.exprs(state, scope, before)?;
+        let more = self.exprs(state, scope, behind)?;
+        given.push(v)?;
+        given.append(more)?;
+        Ok(given)
+    }
+
+    fn print_stage(&self, state: &mut State, scope: &Scope<'_>, printed: &Printed, v: Value) -> Result<Passed, Stop>
+        requires { Nests self.now.program.now self.now.limit self.now.depth (F.pre self.now.low) (F.post self.now.low) }
+        ensures { TellsBy passed_of (printed_stage (here self.now.program.now self.now.limit self.now.depth) [] (scope_of scope.now) printed.now v (seen state.old)) result state.new }
+    {
+        let mut piped = Items::new(self.alloc);
+        piped.push(v)?;
+        self.print_after(state, scope, piped, printed)?;
+        Ok(Passed::On(Value::Unit))
+    }
+
+    /// A stage by name on its arguments. A loop is made whole, with the stages from a place on.
+    #[cycle(pipeline)]
+    fn call_stage(&self, state: &mut State, consumers: &[Consumer<'_>], scope: &Scope<'_>, name: &Spelling, given: Values, region: Option<&Region>, stages: &Items<Stage>, from: usize) -> Result<Passed, Stop>
+        requires { Nests self.now.program.now self.now.limit self.now.depth (F.pre self.now.low) (F.post self.now.low) }
+        ensures { TellsBy passed_of (called_stage (here self.now.program.now self.now.limit self.now.depth) (consumers_of consumers.now) (scope_of scope.now) (callee (program_of self.now.program.now) (scope_of scope.now) name.now) name.now given (region_at region.entry) (drop from stages.now) (seen state.old)) result state.new }
     {
         match resolve(self.program, scope, name) {
             Callee::Defined(called) => {
@@ -173,15 +290,15 @@ impl<'m, F: Fn(Global, &Prepared<'_>, u64, u32, &mut State, &[Consumer<'_>], Tas
                     return self.stage_loop(state, consumers, scope, Iterable::Generated(called, given), region, stages, from);
                 }
                 let v = self.call(state, called, given)?;
-                self.through(state, consumers, scope, region, stages, from, v)
+                Ok(Passed::On(v))
             }
             Callee::Constructor(c) => {
                 let v = self.construct(state, c, given)?;
-                self.through(state, consumers, scope, region, stages, from, v)
+                Ok(Passed::On(v))
             }
             Callee::Standard(which) => {
                 let v = self.call_builtin(state, which, given)?;
-                self.through(state, consumers, scope, region, stages, from, v)
+                Ok(Passed::On(v))
             }
             Callee::Variable => {
                 let _ = read_name(self.alloc, state, scope, name)?;
@@ -216,39 +333,39 @@ impl<'m, F: Fn(Global, &Prepared<'_>, u64, u32, &mut State, &[Consumer<'_>], Tas
 
     /// A loop over something, with the stages from a place on that take its items.
     #[cycle(pipeline)]
-    fn stage_loop(&self, state: &mut State, consumers: &[Consumer<'_>], scope: &Scope<'_>, goes_over: Iterable<'m>, region: Option<&Region>, stages: &Items<Stage>, from: usize) -> Result<Flow, Stop>
+    fn stage_loop(&self, state: &mut State, consumers: &[Consumer<'_>], scope: &Scope<'_>, goes_over: Iterable<'m>, region: Option<&Region>, stages: &Items<Stage>, from: usize) -> Result<Passed, Stop>
         requires { Nests self.now.program.now self.now.limit self.now.depth (F.pre self.now.low) (F.post self.now.low) }
-        ensures { TellsFlow (stage_loop (here self.now.program.now self.now.limit self.now.depth) (consumers_of consumers.now) (scope_of scope.now) (iterable_of goes_over.entry) (region_at region.entry) (drop from stages.now) (seen state.old)) result state.new }
+        ensures { TellsBy passed_of (whole_loop (here self.now.program.now self.now.limit self.now.depth) (consumers_of consumers.now) (scope_of scope.now) (iterable_of goes_over.entry) (region_at region.entry) (drop from stages.now) (seen state.old)) result state.new }
     {
-        let flow = self.stage_turns(state, consumers, scope, goes_over, region, stages, from)?;
-        Ok(after_loop(flow))
+        let flow = self.looped_stages(state, consumers, scope, goes_over, region, stages, from)?;
+        Ok(Passed::Left(after_loop(flow)))
     }
 
     #[cycle(pipeline)]
-    fn stage_turns(&self, state: &mut State, consumers: &[Consumer<'_>], scope: &Scope<'_>, goes_over: Iterable<'m>, region: Option<&Region>, stages: &Items<Stage>, from: usize) -> Result<Flow, Stop>
+    fn looped_stages(&self, state: &mut State, consumers: &[Consumer<'_>], scope: &Scope<'_>, goes_over: Iterable<'m>, region: Option<&Region>, stages: &Items<Stage>, from: usize) -> Result<Flow, Stop>
         requires { Nests self.now.program.now self.now.limit self.now.depth (F.pre self.now.low) (F.post self.now.low) }
         ensures { TellsFlow (looped (here self.now.program.now self.now.limit self.now.depth) (consumers_of consumers.now) (iterable_of goes_over.entry) (Stages (scope_of scope.now) (region_at region.entry) (drop from stages.now)) (seen state.old)) result state.new }
     {
-        match goes_over {
-            Iterable::Generated(called, given) => self.generate(state, consumers, Consumer::Stages(*scope, region, stages, from), called, given),
-            Iterable::Items(container) => self.turns_through(state, consumers, scope, Cursor::Item(container, 0), region, stages, from),
-            Iterable::Numbers(start, stop, step) => self.range_through(state, consumers, scope, &start, &stop, &step, region, stages, from),
+        let mut cursor = Cursor::Ended;
+        match self.enter_loop(state, consumers, Consumer::Stages(*scope, region, stages, from), goes_over, &mut cursor) {
+            Ok(entered) => match entered {
+                Some(flow) => Ok(flow),
+                None => self.turns_within(state, consumers, scope, cursor, region, stages, from),
+            },
+            Err(why) => Err(why),
         }
     }
 
-    /// The turns of a loop over a range.
+    /// The turns of a loop in place, inside of those that run.
     #[cycle(pipeline)]
-    fn range_through(&self, state: &mut State, consumers: &[Consumer<'_>], scope: &Scope<'_>, start: &Value, stop: &Value, step: &Value, region: Option<&Region>, stages: &Items<Stage>, from: usize) -> Result<Flow, Stop>
+    fn turns_within(&self, state: &mut State, consumers: &[Consumer<'_>], scope: &Scope<'_>, begins: Cursor, region: Option<&Region>, stages: &Items<Stage>, from: usize) -> Result<Flow, Stop>
         requires { Nests self.now.program.now self.now.limit self.now.depth (F.pre self.now.low) (F.post self.now.low) }
-        ensures { TellsFlow (looped (here self.now.program.now self.now.limit self.now.depth) (consumers_of consumers.now) (Numbers start.now stop.now step.now) (Stages (scope_of scope.now) (region_at region.entry) (drop from stages.now)) (seen state.old)) result state.new }
+        ensures { TellsFlow (turns_from (here self.now.program.now self.now.limit self.now.depth) (turn_of (here self.now.program.now self.now.limit self.now.depth) (consumers_of consumers.now) (Stages (scope_of scope.now) (region_at region.entry) (drop from stages.now))) begins (seen state.old)) result state.new }
     {
-        match begun(self.alloc, state, start, stop, step) {
-            Ok(cursor) => {
-                is_within(&cursor);
-                self.turns_through(state, consumers, scope, cursor, region, stages, from)
-            }
-            Err(e) => Err(e),
-        }
+        nest(state)?;
+        let flow = self.turns_through(state, consumers, scope, begins, region, stages, from)?;
+        unnest(state);
+        Ok(flow)
     }
 
     /// The turns of a loop in place.

@@ -132,6 +132,7 @@ fn new_state(alloc: Global) -> Result<State, Memory>
         reached: 0,
         regions: 0,
         items: 0,
+        nested: 0,
     })
 }
 

@@ -1,23 +1,24 @@
-use Rattle.std.proofs.Common.{◌≡◌, ◌∙◌, ap, sym, subst, arith, rules, drop, Some, None}
+use Rattle.std.proofs.Common.{◌≡◌, ◌<◌, ◌≤◌, ◌+◌, ◌∙◌, ap, sym, subst, arith, List, [], length, drop, Option, Some}
+use Rattle.source_trees.specs.declared.pipeline.Stage.{Stage}
 use Rattle.std.proofs.lemmas.Grind.{common_steps}
-use Rattle.source_meaning.specs.State.{Flow}
-use Rattle.source_meaning.specs.Outcome.{Outcome, Gives, and_then, bind, pure}
+use Rattle.source_meaning.specs.State.{State, Flow}
+use Rattle.source_meaning.specs.Outcome.{Outcome, Gives, Run, and_then, bind, pure}
 use Rattle.source_meaning.specs.Iterations.{in_place}
 use Rattle.source_meaning.specs.Cursors.{next_by}
 use Rattle.source_meaning.specs.Meaning.{turn_of}
 use Rattle.source_meaning.specs.Inside.{saved_of, entering}
-use Rattle.source_meaning.specs.Pipelines.{parallel_part, from_head}
-use Rattle.source_meaning.specs.Stages.{staged, staged_ahead}
-use Rattle.source_meaning.specs.Task.{Stages}
+use Rattle.source_meaning.specs.Pipelines.{parallel_part}
+use Rattle.source_meaning.specs.Stages.{Ended, staged, staged_ahead}
+use Rattle.source_meaning.specs.Loops.{after_loop}
+use Rattle.source_meaning.specs.Steps.{turns_from}
+use Rattle.source_meaning.specs.Task.{Region, Stages}
 use Rattle.source_meaning.specs.Seen.{seen, flow_of, why_of, TellsFlow}
 use Rattle.source_meaning.specs.Scopes.{scope_of}
 use Rattle.source_meaning.specs.Tasks.{here, consumers_of, region_at, region_of}
-use Rattle.source_meaning.specs.Steps.{iterable_of, looped}
-use Rattle.source_meaning.specs.declared.iterable.Iterable.{Iterable}
-use Rattle.source_meaning.proofs.Over.{over_items, over_numbers, over_none}
 use Rattle.source_meaning.proofs.Turns.{loop_begins, turn_next}
-use Rattle.source_meaning.proofs.Ahead.{ahead_some, ahead_none, through_next, through_end}
-use Rattle.source_meaning.proofs.Apart.{begins, region_gives, region_stops, region_stops_after, item_gives, item_stops_before, item_stops, item_stops_after, stage_is, stage_above}
+use Rattle.source_meaning.proofs.Ahead.{ahead_some, ahead_none}
+use Rattle.source_meaning.proofs.Passing.{staged_on, staged_left, staged_stops, reaches_next, passes_on, passes_left, passes_none}
+use Rattle.source_meaning.proofs.Apart.{begins, region_gives, item_gives, stage_is, stage_above}
 use Rattle.source_meaning.proofs.runner.Runner.+pipeline.Goals as goal
 
 pub turns_through-turns-init : goal.turns_through-turns-init
@@ -75,28 +76,79 @@ perform_inside-returns-in_err-finish_region g t c =
     grind (arith, common_steps, next)
 
 pub perform_ahead-returns-in-None : goal.perform_ahead-returns-in-None
-perform_ahead-returns-in-None g t c = subst (λ (o : Outcome Flow). TellsFlow o c.perform.result c.perform.new.state) (sym (ahead_none (here c.args.self.now.program.now c.args.self.now.limit c.args.self.now.depth) (consumers_of c.args.consumers.now) (scope_of c.args.scope.now) (λ r. staged (here c.args.self.now.program.now c.args.self.now.limit c.args.self.now.depth) (consumers_of c.args.consumers.now) (scope_of c.args.scope.now) c.args.form.now r (drop c.args.from c.args.stages.now) c.args.v) (parallel_part (drop c.args.from c.args.stages.now)) (seen c.args.state.now) c.in-None.ensures)) c.perform.ensures
+perform_ahead-returns-in-None g t c =
+    let run : Option Region → Run Flow = λ r. staged (here c.args.self.now.program.now c.args.self.now.limit c.args.self.now.depth) (consumers_of c.args.consumers.now) (scope_of c.args.scope.now) c.args.form.now r (drop c.args.from c.args.stages.now) c.args.v in
+    let none : parallel_part (drop c.args.from c.args.stages.now) ≡ [] = ap (λ (l : List Stage). parallel_part (drop c.args.from l)) (sym c.as_slice.ensures) ∙ c.in-None.ensures in
+    subst (λ (o : Outcome Flow). TellsFlow o c.perform.result c.perform.new.state)
+    (sym (ahead_none (here c.args.self.now.program.now c.args.self.now.limit c.args.self.now.depth) (consumers_of c.args.consumers.now) (scope_of c.args.scope.now) run (parallel_part (drop c.args.from c.args.stages.now)) (seen c.args.state.now) none))
+    c.perform.ensures
 
-pub perform_ahead-returns-in-Some : goal.perform_ahead-returns-in-Some
+pub perform_ahead-returns-in-Ok : goal.perform_ahead-returns-in-Ok
 unfolding bind
-perform_ahead-returns-in-Some g t c = let more = ahead_some (here c.args.self.now.program.now c.args.self.now.limit c.args.self.now.depth) (consumers_of c.args.consumers.now) (scope_of c.args.scope.now) (λ r. staged (here c.args.self.now.program.now c.args.self.now.limit c.args.self.now.depth) (consumers_of c.args.consumers.now) (scope_of c.args.scope.now) c.args.form.now r (drop c.args.from c.args.stages.now) c.args.v) c.args.stages.now (parallel_part (drop c.args.from c.args.stages.now)) c.in-Some.place (seen c.args.state.now) c.in-Some.ensures.0 c.in-Some.ensures.1 in
-    subst (λ (o : Outcome Flow). TellsFlow o c.perform_inside.result c.perform_inside.new.state) (sym (more ∙ ap (λ p. and_then p (λ region. in_place.region region ((λ r. staged (here c.args.self.now.program.now c.args.self.now.limit c.args.self.now.depth) (consumers_of c.args.consumers.now) (scope_of c.args.scope.now) c.args.form.now r (drop c.args.from c.args.stages.now) c.args.v) (Some region)))) c.in_ok-region.ensures)) c.perform_inside.ensures
+perform_ahead-returns-in-Ok g t c =
+    let run : Option Region → Run Flow = λ r. staged (here c.args.self.now.program.now c.args.self.now.limit c.args.self.now.depth) (consumers_of c.args.consumers.now) (scope_of c.args.scope.now) c.args.form.now r (drop c.args.from c.args.stages.now) c.args.v in
+    let there : c.in-Some.place < length c.args.stages.now = subst (λ (l : List Stage). c.in-Some.place < length l) c.as_slice.ensures c.in-Some.ensures.0 in
+    let parts : parallel_part (drop c.args.from c.args.stages.now) ≡ drop c.in-Some.place c.args.stages.now =
+        ap (λ (l : List Stage). parallel_part (drop c.args.from l)) (sym c.as_slice.ensures) ∙ c.in-Some.ensures.1 ∙ ap (λ (l : List Stage). drop c.in-Some.place l) c.as_slice.ensures in
+    let begins = ahead_some (here c.args.self.now.program.now c.args.self.now.limit c.args.self.now.depth) (consumers_of c.args.consumers.now) (scope_of c.args.scope.now) run c.args.stages.now (parallel_part (drop c.args.from c.args.stages.now)) c.in-Some.place (seen c.args.state.now) there parts in
+    subst (λ (o : Outcome Flow). TellsFlow o c.perform_inside.result c.perform_inside.new.state)
+    (sym (begins ∙ ap (λ (p : Outcome Region). and_then p (λ region. in_place.region region (run (Some region)))) c.in-Ok.ensures))
+    c.perform_inside.ensures
 
-pub perform_ahead-returns-in_err-region-in-Some : goal.perform_ahead-returns-in_err-region-in-Some
+pub perform_ahead-returns-in-Err : goal.perform_ahead-returns-in-Err
 unfolding bind
-perform_ahead-returns-in_err-region-in-Some g t c = λ known. ahead_some (here c.args.self.now.program.now c.args.self.now.limit c.args.self.now.depth) (consumers_of c.args.consumers.now) (scope_of c.args.scope.now) (λ r. staged (here c.args.self.now.program.now c.args.self.now.limit c.args.self.now.depth) (consumers_of c.args.consumers.now) (scope_of c.args.scope.now) c.args.form.now r (drop c.args.from c.args.stages.now) c.args.v) c.args.stages.now (parallel_part (drop c.args.from c.args.stages.now)) c.in-Some.place (seen c.args.state.now) c.in-Some.ensures.0 c.in-Some.ensures.1 ∙ ap (λ p. and_then p (λ region. in_place.region region ((λ r. staged (here c.args.self.now.program.now c.args.self.now.limit c.args.self.now.depth) (consumers_of c.args.consumers.now) (scope_of c.args.scope.now) c.args.form.now r (drop c.args.from c.args.stages.now) c.args.v) (Some region)))) (c.in_err-region-in-Some.ensures known)
+perform_ahead-returns-in-Err g t c = λ known.
+    let run : Option Region → Run Flow = λ r. staged (here c.args.self.now.program.now c.args.self.now.limit c.args.self.now.depth) (consumers_of c.args.consumers.now) (scope_of c.args.scope.now) c.args.form.now r (drop c.args.from c.args.stages.now) c.args.v in
+    let there : c.in-Some.place < length c.args.stages.now = subst (λ (l : List Stage). c.in-Some.place < length l) c.as_slice.ensures c.in-Some.ensures.0 in
+    let parts : parallel_part (drop c.args.from c.args.stages.now) ≡ drop c.in-Some.place c.args.stages.now =
+        ap (λ (l : List Stage). parallel_part (drop c.args.from l)) (sym c.as_slice.ensures) ∙ c.in-Some.ensures.1 ∙ ap (λ (l : List Stage). drop c.in-Some.place l) c.as_slice.ensures in
+    let begins = ahead_some (here c.args.self.now.program.now c.args.self.now.limit c.args.self.now.depth) (consumers_of c.args.consumers.now) (scope_of c.args.scope.now) run c.args.stages.now (parallel_part (drop c.args.from c.args.stages.now)) c.in-Some.place (seen c.args.state.now) there parts in
+    begins ∙ ap (λ (p : Outcome Region). and_then p (λ region. in_place.region region (run (Some region)))) (c.in-Err.ensures known)
 
-pub stage_turns-returns-in-Items : goal.stage_turns-returns-in-Items
-stage_turns-returns-in-Items g t c =
-    subst (λ (o : Outcome Flow). TellsFlow o c.turns_through.result c.turns_through.new.state)
-    (sym (ap (λ (i : Iterable). looped (here c.args.self.now.program.now c.args.self.now.limit c.args.self.now.depth) (consumers_of c.args.consumers.now) (iterable_of i) (Stages (scope_of c.args.scope.now) (region_at c.args.region) (drop c.args.from c.args.stages.now)) (seen c.args.state.now)) c.in-Items.is ∙ over_items (here c.args.self.now.program.now c.args.self.now.limit c.args.self.now.depth) (consumers_of c.args.consumers.now) (Stages (scope_of c.args.scope.now) (region_at c.args.region) (drop c.args.from c.args.stages.now)) c.in-Items.container (seen c.args.state.now)))
-    c.turns_through.ensures
+pub perform-returns-in-On : goal.perform-returns-in-On
+perform-returns-in-On g t c =
+    subst (λ (o : Outcome Flow). TellsFlow o c.through.result c.through.new.state)
+    (sym (staged_on (here c.args.self.now.program.now c.args.self.now.limit c.args.self.now.depth) (consumers_of c.args.consumers.now) (scope_of c.args.scope.now) (region_at c.args.region) (drop c.args.from c.args.stages.now) c.args.form.now c.args.v c.in-On.v (seen c.args.state.now) (seen c.pass.new.state) (rw c.in-On.is at c.in-Ok.ensures)))
+    c.through.ensures
 
-pub range_through-returns-in-Ok : goal.range_through-returns-in-Ok
-range_through-returns-in-Ok g t c =
-    subst (λ (o : Outcome Flow). TellsFlow o c.turns_through.result c.turns_through.new.state)
-    (sym (over_numbers (here c.args.self.now.program.now c.args.self.now.limit c.args.self.now.depth) (consumers_of c.args.consumers.now) (Stages (scope_of c.args.scope.now) (region_at c.args.region) (drop c.args.from c.args.stages.now)) c.args.start.now c.args.stop.now c.args.step.now (seen c.args.state.now) (seen c.args.state.now) c.in-Ok.cursor c.in-Ok.ensures c.is_within.ensures))
-    c.turns_through.ensures
+pub perform-returns-in-Left : goal.perform-returns-in-Left
+perform-returns-in-Left g t c = staged_left (here c.args.self.now.program.now c.args.self.now.limit c.args.self.now.depth) (consumers_of c.args.consumers.now) (scope_of c.args.scope.now) (region_at c.args.region) (drop c.args.from c.args.stages.now) c.args.form.now c.args.v (flow_of c.in-Left.flow) (seen c.args.state.now) (seen c.pass.new.state) (rw c.in-Left.is at c.in-Ok.ensures)
 
-pub range_through-returns-in-Err : goal.range_through-returns-in-Err
-range_through-returns-in-Err g t c = λ n. over_none (here c.args.self.now.program.now c.args.self.now.limit c.args.self.now.depth) (consumers_of c.args.consumers.now) (Stages (scope_of c.args.scope.now) (region_at c.args.region) (drop c.args.from c.args.stages.now)) c.args.start.now c.args.stop.now c.args.step.now (seen c.args.state.now) (seen c.args.state.now) (why_of c.in-Err.e) (c.in-Err.ensures n)
+pub perform-returns-in-Err : goal.perform-returns-in-Err
+perform-returns-in-Err g t c = λ n. staged_stops (here c.args.self.now.program.now c.args.self.now.limit c.args.self.now.depth) (consumers_of c.args.consumers.now) (scope_of c.args.scope.now) (region_at c.args.region) (drop c.args.from c.args.stages.now) c.args.form.now c.args.v (why_of c.in-Err.why) (seen c.args.state.now) (seen c.pass.new.state) (c.in-Err.ensures n)
+
+pub through-returns-in-InParallel : goal.through-returns-in-InParallel
+through-returns-in-InParallel g t c =
+    subst (λ (o : Outcome Flow). TellsFlow o c.joined.result c.joined.new.state)
+    (sym (c.stages.invariant.1 ∙ reaches_next (here c.args.self.now.program.now c.args.self.now.limit c.args.self.now.depth) (consumers_of c.args.consumers.now) (scope_of c.args.scope.now) (region_at c.args.region) c.args.stages.now c.stages.at c.in-Some.stage.now c.stages.passed (seen c.stages.state) (sym c.in-Some.ensures.value) c.in-InParallel.is))
+    c.joined.ensures
+
+pub through-stages-preserved : goal.through-stages-preserved
+through-stages-preserved g t c =
+    let before = c.stages.invariant.0 in
+    let more : c.args.place ≤ c.stages.at + 1 = omega (arith, before) in
+    (more, c.stages.invariant.1 ∙ passes_on (here c.args.self.now.program.now c.args.self.now.limit c.args.self.now.depth) (consumers_of c.args.consumers.now) (scope_of c.args.scope.now) (region_at c.args.region) c.args.stages.now c.stages.at c.in-Some.stage.now c.stages.passed (seen c.stages.state) (sym c.in-Some.ensures.value) c.in-On.v (seen c.pass.new.state) c.in-InTurn.is (rw c.in-On.is at c.in-Ok.ensures))
+
+pub through-returns-in-Left : goal.through-returns-in-Left
+through-returns-in-Left g t c = c.stages.invariant.1 ∙ passes_left (here c.args.self.now.program.now c.args.self.now.limit c.args.self.now.depth) (consumers_of c.args.consumers.now) (scope_of c.args.scope.now) (region_at c.args.region) c.args.stages.now c.stages.at c.in-Some.stage.now c.stages.passed (seen c.stages.state) (sym c.in-Some.ensures.value) (flow_of c.in-Left.flow) (seen c.pass.new.state) c.in-InTurn.is (rw c.in-Left.is at c.in-Ok.ensures)
+
+pub through-returns-in-Err : goal.through-returns-in-Err
+through-returns-in-Err g t c = λ n. c.stages.invariant.1 ∙ passes_none (here c.args.self.now.program.now c.args.self.now.limit c.args.self.now.depth) (consumers_of c.args.consumers.now) (scope_of c.args.scope.now) (region_at c.args.region) c.args.stages.now c.stages.at c.in-Some.stage.now c.stages.passed (seen c.stages.state) (sym c.in-Some.ensures.value) (why_of c.in-Err.why) (seen c.pass.new.state) c.in-InTurn.is (c.in-Err.ensures n)
+
+pub looped_stages-returns-in-None : goal.looped_stages-returns-in-None
+looped_stages-returns-in-None g t c =
+    subst (λ (o : Outcome Flow). TellsFlow o c.turns_within.result c.turns_within.new.state)
+    (sym (rw c.in-None.is at c.in-Ok.ensures))
+    c.turns_within.ensures
+
+pub turns_within-returns : goal.turns_within-returns
+turns_within-returns g t c =
+    ap (λ (s : State). turns_from (here c.args.self.now.program.now c.args.self.now.limit c.args.self.now.depth) (turn_of (here c.args.self.now.program.now c.args.self.now.limit c.args.self.now.depth) (consumers_of c.args.consumers.now) (Stages (scope_of c.args.scope.now) (region_at c.args.region) (drop c.args.from c.args.stages.now))) c.args.begins s) (sym c.nest.ensures)
+    ∙ c.in_ok-flow.ensures
+    ∙ ap (λ (s : State). Gives (flow_of c.in_ok-flow.flow) s) (sym c.unnest.ensures)
+
+pub stage_loop-returns : goal.stage_loop-returns
+unfolding bind pure
+stage_loop-returns g t c =
+    ap (λ (o : Outcome Flow). and_then (and_then o (λ flow s. Gives (after_loop flow) s)) (λ flow s. Gives (Ended flow) s)) c.in_ok-flow.ensures
+    ∙ ap (λ (flow : Flow). Gives (Ended flow) (seen c.looped_stages.new.state)) (sym c.after_loop.ensures)

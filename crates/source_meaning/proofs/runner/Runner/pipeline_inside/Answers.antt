@@ -1,20 +1,11 @@
-use Rattle.std.proofs.Common.{◌≡◌, ◌∙◌, ap, sym, subst, arith, rules, drop, Some, None}
+use Rattle.std.proofs.Common.{arith, Some}
 use Rattle.std.proofs.lemmas.Grind.{common_steps}
-use Rattle.source_meaning.specs.State.{Flow}
-use Rattle.source_meaning.specs.Outcome.{Outcome, Gives, and_then, bind, pure}
-use Rattle.source_meaning.specs.Iterations.{in_place}
-use Rattle.source_meaning.specs.Cursors.{next_by}
-use Rattle.source_meaning.specs.Meaning.{turn_of}
-use Rattle.source_meaning.specs.Inside.{saved_of}
-use Rattle.source_meaning.specs.Pipelines.{parallel_part, from_head}
-use Rattle.source_meaning.specs.Stages.{staged, staged_ahead}
-use Rattle.source_meaning.specs.Task.{Stages}
-use Rattle.source_meaning.specs.Seen.{seen, flow_of, why_of, TellsFlow}
+use Rattle.source_meaning.specs.Outcome.{bind, pure}
+use Rattle.source_meaning.specs.Pipelines.{from_head}
+use Rattle.source_meaning.specs.Seen.{seen, flow_of}
 use Rattle.source_meaning.specs.Scopes.{scope_of}
-use Rattle.source_meaning.specs.Tasks.{here, consumers_of, region_at, region_of}
-use Rattle.source_meaning.proofs.Turns.{loop_begins, turn_next}
-use Rattle.source_meaning.proofs.Ahead.{ahead_some, ahead_none, through_next, through_end}
-use Rattle.source_meaning.proofs.Apart.{begins, region_gives, region_stops, region_stops_after, item_gives, item_stops_before, item_stops, item_stops_after, stage_is, stage_above}
+use Rattle.source_meaning.specs.Tasks.{here, consumers_of, region_of}
+use Rattle.source_meaning.proofs.Apart.{begins, region_gives}
 use Rattle.source_meaning.proofs.runner.Runner.pipeline_inside.Goals as goal
 
 pub returns : goal.returns
