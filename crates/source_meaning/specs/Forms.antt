@@ -1,4 +1,4 @@
--- Which parts an expression has, by its form.
+-- Which parts an expression or a statement has, by its form.
 use Rattle.std.specs.Prelude.{◌≡◌, ◌≢◌, List, Option}
 use Rattle.source_trees.specs.declared.node.Node.{Node}
 use Rattle.source_trees.specs.declared.node.Name.{Name}
@@ -7,6 +7,9 @@ use Rattle.source_trees.specs.declared.statement.LoopNames.{LoopNames}
 use Rattle.source_trees.specs.declared.expression.Comparison.{Comparison}
 use Rattle.source_trees.specs.declared.expression.Expr.{Expr}
 use Rattle.source_trees.specs.declared.expression.Expr.TheVariants as e
+use Rattle.source_trees.specs.declared.statement.Arm.{Arm}
+use Rattle.source_trees.specs.declared.statement.Stmt.{Stmt}
+use Rattle.source_trees.specs.declared.statement.Stmt.TheVariants as s
 use Rattle.source_meaning.specs.State.{Spelling}
 
 abbrev pub IsConditional : Expr → Expr → Expr → Expr → Type 0
@@ -35,3 +38,6 @@ IsComprehension whole names kept item = (n : Node) × (goes : Expr) × (whole �
 
 abbrev pub IsNoCall : Expr → Type 0
 IsNoCall whole = ((n : Node) (name : Name) (parts : List Expr) → whole ≢ e.Call n name parts) × ((n m : Node) (object : Expr) (name : Spelling) (parts : List Expr) → whole ≢ e.MethodCall n m object name parts)
+
+abbrev pub IsIf : Stmt → List Arm → List Stmt → Type 0
+IsIf whole arms otherwise = (n : Node) × (whole ≡ s.If n arms otherwise)

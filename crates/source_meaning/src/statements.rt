@@ -2,6 +2,7 @@
 
 ghost use Rattle.source_meaning.specs.Loops as spec;
 ghost use Rattle.source_meaning.specs.Loops.{Numbers};
+ghost use Rattle.source_meaning.specs.Forms.{IsIf};
 ghost use Rattle.source_meaning.specs.Meaning.{turn_of};
 ghost use Rattle.source_meaning.specs.Outcome.{bind, pure};
 ghost use Rattle.source_meaning.specs.Regions.{consumer_in};
@@ -62,7 +63,7 @@ impl<'m, F: Fn(Global, &Prepared<'_>, u64, u32, &mut State, &[Consumer<'_>], Tas
             Stmt::Evaluate(_, e) => self.evaluated(state, scope, e),
             Stmt::Print(_, printed) => self.print_statement(state, scope, printed),
             Stmt::Pipeline(_, head, stages) => self.pipeline(state, consumers, scope, head, stages),
-            Stmt::If(_, arms, otherwise) => self.choose(state, consumers, scope, arms.as_slice(), otherwise),
+            Stmt::If(_, arms, otherwise) => self.choose(state, consumers, scope, s, arms, otherwise),
             Stmt::While(_, e, body) => self.while_loop(state, consumers, scope, body, e),
             Stmt::For(l) => self.for_loop(state, consumers, scope, l),
             Stmt::Par(_, _, l) => self.parallel_loop(state, consumers, scope, l),
@@ -70,11 +71,12 @@ impl<'m, F: Fn(Global, &Prepared<'_>, u64, u32, &mut State, &[Consumer<'_>], Tas
     }
 
     #[cycle(statement)]
-    fn choose(&self, state: &mut State, consumers: &[Consumer<'_>], scope: &Scope<'_>, arms: &[Arm], otherwise: &Items<Stmt>) -> Result<Flow, Stop>
-        requires { Nests self.now.program.now self.now.limit self.now.depth (F.pre self.now.low) (F.post self.now.low) }
+    fn choose(&self, state: &mut State, consumers: &[Consumer<'_>], scope: &Scope<'_>, s: &Stmt, arms: &Items<Arm>, otherwise: &Items<Stmt>) -> Result<Flow, Stop>
+        requires nests { Nests self.now.program.now self.now.limit self.now.depth (F.pre self.now.low) (F.post self.now.low) }
+        requires form { IsIf s.now arms.now otherwise.now }
         ensures { TellsFlow (chosen (here self.now.program.now self.now.limit self.now.depth) (consumers_of consumers.now) (scope_of scope.now) arms.now otherwise.now (seen state.old)) result state.new }
     {
-        'arms: for arm in arms {
+        'arms: for arm in arms.as_slice() {
             if self.condition(state, scope, &arm.condition)? {
                 return self.block(state, consumers, scope, &arm.body);
             }

@@ -54,7 +54,7 @@ pub statement-returns-in-Pipeline : goal.statement-returns-in-Pipeline
 statement-returns-in-Pipeline g t c = subst (λ (o : Outcome Flow). TellsFlow o c.pipeline.result c.pipeline.new.state) (sym (ap (λ d. stmt (here c.args.self.now.program.now c.args.self.now.limit c.args.self.now.depth) (consumers_of c.args.consumers.now) d (scope_of c.args.scope.now) (seen c.args.state.now)) c.in-Pipeline.is ∙ stmt_Pipeline (here c.args.self.now.program.now c.args.self.now.limit c.args.self.now.depth) (consumers_of c.args.consumers.now) _ _ _ (scope_of c.args.scope.now) (seen c.args.state.now))) c.pipeline.ensures
 
 pub statement-returns-in-If : goal.statement-returns-in-If
-statement-returns-in-If g t c = subst (λ (o : Outcome Flow). TellsFlow o c.choose.result c.choose.new.state) (sym (ap (λ d. stmt (here c.args.self.now.program.now c.args.self.now.limit c.args.self.now.depth) (consumers_of c.args.consumers.now) d (scope_of c.args.scope.now) (seen c.args.state.now)) c.in-If.is ∙ stmt_If (here c.args.self.now.program.now c.args.self.now.limit c.args.self.now.depth) (consumers_of c.args.consumers.now) _ _ _ (scope_of c.args.scope.now) (seen c.args.state.now) ∙ ap (λ l. chosen (here c.args.self.now.program.now c.args.self.now.limit c.args.self.now.depth) (consumers_of c.args.consumers.now) (scope_of c.args.scope.now) l c.in-If.otherwise (seen c.args.state.now)) (sym c.as_slice.ensures))) c.choose.ensures
+statement-returns-in-If g t c = subst (λ (o : Outcome Flow). TellsFlow o c.choose.result c.choose.new.state) (sym (ap (λ d. stmt (here c.args.self.now.program.now c.args.self.now.limit c.args.self.now.depth) (consumers_of c.args.consumers.now) d (scope_of c.args.scope.now) (seen c.args.state.now)) c.in-If.is ∙ stmt_If (here c.args.self.now.program.now c.args.self.now.limit c.args.self.now.depth) (consumers_of c.args.consumers.now) _ _ _ (scope_of c.args.scope.now) (seen c.args.state.now))) c.choose.ensures
 
 pub statement-returns-in-While : goal.statement-returns-in-While
 statement-returns-in-While g t c = subst (λ (o : Outcome Flow). TellsFlow o c.while_loop.result c.while_loop.new.state) (sym (ap (λ d. stmt (here c.args.self.now.program.now c.args.self.now.limit c.args.self.now.depth) (consumers_of c.args.consumers.now) d (scope_of c.args.scope.now) (seen c.args.state.now)) c.in-While.is ∙ stmt_While (here c.args.self.now.program.now c.args.self.now.limit c.args.self.now.depth) (consumers_of c.args.consumers.now) _ _ _ (scope_of c.args.scope.now) (seen c.args.state.now))) c.while_loop.ensures
@@ -91,15 +91,15 @@ block-returns-in_err-flow g t c = let next = block_next (here c.args.self.now.pr
     grind (arith, common_steps, next)
 
 pub choose-arms-preserved : goal.choose-arms-preserved
-choose-arms-preserved g t c = let next = chosen_next (here c.args.self.now.program.now c.args.self.now.limit c.args.self.now.depth) (consumers_of c.args.consumers.now) (scope_of c.args.scope.now) c.args.arms.now c.args.otherwise.now c.arms.arm-index c.arm-item.result (seen c.arms.state) c.arms-test.true c.arm-item.is in
+choose-arms-preserved g t c = let next = chosen_next (here c.args.self.now.program.now c.args.self.now.limit c.args.self.now.depth) (consumers_of c.args.consumers.now) (scope_of c.args.scope.now) c.as_slice-arm-items.result.now c.args.otherwise.now c.arms.arm-index c.arm-item.result (seen c.arms.state) c.arms-test.true c.arm-item.is in
     grind (arith, common_steps, next)
 
 pub choose-returns-in_err-condition : goal.choose-returns-in_err-condition
-choose-returns-in_err-condition g t c = let next = chosen_next (here c.args.self.now.program.now c.args.self.now.limit c.args.self.now.depth) (consumers_of c.args.consumers.now) (scope_of c.args.scope.now) c.args.arms.now c.args.otherwise.now c.arms.arm-index c.arm-item.result (seen c.arms.state) c.arms-test.true c.arm-item.is in
+choose-returns-in_err-condition g t c = let next = chosen_next (here c.args.self.now.program.now c.args.self.now.limit c.args.self.now.depth) (consumers_of c.args.consumers.now) (scope_of c.args.scope.now) c.as_slice-arm-items.result.now c.args.otherwise.now c.arms.arm-index c.arm-item.result (seen c.arms.state) c.arms-test.true c.arm-item.is in
     grind (arith, common_steps, next)
 
 pub choose-returns : goal.choose-returns
-choose-returns g t c = subst (λ (o : Outcome Flow). TellsFlow o c.block-2.result c.block-2.new.state) (sym (c.arms.invariant ∙ chosen_end (here c.args.self.now.program.now c.args.self.now.limit c.args.self.now.depth) (consumers_of c.args.consumers.now) (scope_of c.args.scope.now) c.args.arms.now c.args.otherwise.now c.arms.arm-index (seen c.arms.state) c.arms-test.false)) c.block-2.ensures
+choose-returns g t c = subst (λ (o : Outcome Flow). TellsFlow o c.block-2.result c.block-2.new.state) (sym (ap (λ l. chosen (here c.args.self.now.program.now c.args.self.now.limit c.args.self.now.depth) (consumers_of c.args.consumers.now) (scope_of c.args.scope.now) l c.args.otherwise.now (seen c.args.state.now)) (sym c.as_slice-arm-items.ensures) ∙ c.arms.invariant ∙ chosen_end (here c.args.self.now.program.now c.args.self.now.limit c.args.self.now.depth) (consumers_of c.args.consumers.now) (scope_of c.args.scope.now) c.as_slice-arm-items.result.now c.args.otherwise.now c.arms.arm-index (seen c.arms.state) c.arms-test.false)) c.block-2.ensures
 
 pub while_loop-turns-init : goal.while_loop-turns-init
 while_loop-turns-init g t c = loop_begins (while_next c.args.self.now.limit (condition (here c.args.self.now.program.now c.args.self.now.limit c.args.self.now.depth) (scope_of c.args.scope.now) c.args.e.now)) (λ _. statements (here c.args.self.now.program.now c.args.self.now.limit c.args.self.now.depth) (consumers_of c.args.consumers.now) (scope_of c.args.scope.now) c.args.body.now) c.args.self.now.limit tt (seen c.args.state.now) c.left-left.result c.left-left.ensures

@@ -20,7 +20,7 @@ invariant-block-statements g l =
 abbrev pub invariant-choose-arms : goal.invariant-choose-arms
 invariant-choose-arms g l =
     let at = here l.self.program.now l.self.limit l.self.depth in
-    chosen at (consumers_of l.consumers) (scope_of l.scope) l.arms l.otherwise (seen l.fn.state) ≡ chosen at (consumers_of l.consumers) (scope_of l.scope) (drop l.arm-index l.arms) l.otherwise (seen l.state)
+    chosen at (consumers_of l.consumers) (scope_of l.scope) l.arm-items l.otherwise (seen l.fn.state) ≡ chosen at (consumers_of l.consumers) (scope_of l.scope) (drop l.arm-index l.arm-items) l.otherwise (seen l.state)
 
 abbrev pub invariant-while_loop-turns : goal.invariant-while_loop-turns
 invariant-while_loop-turns g l =
