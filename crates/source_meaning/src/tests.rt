@@ -7,7 +7,6 @@ mod lists;
 mod names;
 mod pipelines;
 mod regions;
-mod stack;
 mod statements;
 mod ticks;
 
