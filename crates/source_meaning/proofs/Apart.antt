@@ -4,10 +4,13 @@ use Rattle.codon_base.specs.declared.value.Value.{Value}
 use Rattle.source_trees.specs.declared.statement.LoopNames.{LoopNames}
 use Rattle.source_trees.specs.declared.statement.Stmt.{Stmt}
 use Rattle.source_trees.specs.declared.pipeline.Stage.{Stage}
-use Rattle.source_meaning.specs.State.{State, Stop, TooDeep, Flow}
+use Rattle.source_meaning.specs.State.{Spelling, State, Stop, TooDeep, Flow}
 use Rattle.source_meaning.specs.Outcome.{Outcome, Gives, Stops, Run, and_then, bind, pure, ◌>>=◌, is_outside, counting}
 use Rattle.source_meaning.specs.Program.{Scope}
-use Rattle.source_meaning.specs.Task.{Region, Consumer, Body, Parallel}
+use Rattle.source_meaning.specs.Task.{Region, Consumer, Body, Parallel, Setting}
+use Rattle.source_meaning.specs.Captures.{body_scope}
+use Rattle.source_meaning.specs.Loops.{Iterable}
+use Rattle.source_meaning.specs.Steps.{looped}
 use Rattle.source_meaning.specs.Iterations.{in_place}
 use Rattle.source_meaning.specs.Inside.{Saved, entering, leaving, from_zero, finishing}
 use Rattle.source_meaning.specs.Meaning.{turn_of}
@@ -36,6 +39,15 @@ module _ (body : Run Flow) (s t : State) (outside : Bool) (reached : ℕ) (zero 
   pub region_stops_after : (u w : State) (flow : Flow) (why : Stop) → body t ≡ Gives flow u → finishing outside reached flow u ≡ Stops why w → counting body s ≡ Stops why w
   unfolding bind
   region_stops_after u w flow why e f = begins ∙ ap (λ p. and_then p finishes) e ∙ ap (λ p. and_then p (λ _. pure flow)) f
+
+-- the region of a parallel loop, whose body stands where its own names are fixed
+pub loop_region_begins : (here : Setting) (consumers : List Consumer) (goes_over : Iterable) (region : Region) (scope : Scope) (names : LoopNames) (body : List Stmt) (fixed : List Spelling) → fixed ≡ (body_scope scope names body).fixed
+    → (s t : State) (outside : Bool) (reached : ℕ) → t ≡ from_zero s → outside ≡ is_outside s.shared.iterations → reached ≡ s.shared.reached
+    → counting (looped here consumers goes_over (Parallel region (body_scope scope names body) names body)) s
+    ≡ and_then (looped here consumers goes_over (Parallel region (record scope { fixed = fixed }) names body) t) (λ flow. finishing outside reached flow >>= λ _. pure flow)
+loop_region_begins here consumers goes_over region scope names body fixed e s t outside reached zero o r =
+    ap (λ f. counting (looped here consumers goes_over (Parallel region (record scope { fixed = f }) names body)) s) (sym e)
+    ∙ begins (looped here consumers goes_over (Parallel region (record scope { fixed = fixed }) names body)) s t outside reached zero o r
 
 -- ---- iterations
 

@@ -4,6 +4,7 @@ use Rattle.source_meaning.specs.State.{Flow}
 use Rattle.source_meaning.specs.Outcome.{Outcome, Gives, bind, pure}
 use Rattle.source_meaning.specs.Iterations.{in_place}
 use Rattle.source_meaning.specs.Cursors.{next_by}
+use Rattle.source_meaning.specs.Captures.{body_scope}
 use Rattle.source_meaning.specs.Meaning.{turn_of}
 use Rattle.source_meaning.specs.Statements.{stmt, statements, raise}
 use Rattle.source_meaning.specs.Expressions.{condition}
@@ -20,7 +21,7 @@ use Rattle.source_meaning.specs.Tasks.{here, consumers_of, region_at, region_of}
 use Rattle.source_meaning.proofs.StatementEquations.{stmt_Pass, stmt_Break, stmt_Continue, stmt_Return, stmt_Yield, stmt_Raise, stmt_Assert, stmt_Annotated, stmt_Assign, stmt_Update, stmt_Evaluate, stmt_Print, stmt_Pipeline, stmt_If, stmt_While, stmt_For, stmt_Par}
 use Rattle.source_meaning.proofs.Blocks.{block_more, block_next, block_leaves, block_stops, block_end, chosen_next, chosen_end}
 use Rattle.source_meaning.proofs.Turns.{loop_begins, turn_next}
-use Rattle.source_meaning.proofs.Apart.{region_gives, region_stops, region_stops_after, item_gives, item_stops_before, item_stops, item_stops_after, turn_is, turn_above}
+use Rattle.source_meaning.proofs.Apart.{loop_region_begins, region_gives, region_stops, region_stops_after, item_gives, item_stops_before, item_stops, item_stops_after, turn_is, turn_above}
 use Rattle.source_meaning.proofs.runner.Runner.+statement.Goals as goal
 
 pub statement-returns-in-Return : goal.statement-returns-in-Return
@@ -135,6 +136,24 @@ parallel_turn-returns-in_err-flow g t c = let next = turn_is c.args.self.now.pro
 pub parallel_turn-returns-in_err-leave_iteration : goal.parallel_turn-returns-in_err-leave_iteration
 unfolding bind pure
 parallel_turn-returns-in_err-leave_iteration g t c = let next = turn_is c.args.self.now.program.now c.args.self.now.limit c.args.self.now.depth (consumers_of c.args.consumers.now) (region_of c.args.region.now) (scope_of c.args.scope.now) c.args.names.now c.args.body.now c.args.v (seen c.args.state.now) in
+    grind (arith, common_steps, next)
+
+pub region_of_loop-returns : goal.region_of_loop-returns
+unfolding bind pure
+region_of_loop-returns g t c = let fixed : c.as_slice-2.result.now ≡ (body_scope (scope_of c.args.scope.now) c.args.l.now.names c.args.l.now.body).fixed = c.as_slice-2.ensures ∙ c.in_ok-fixed.ensures ∙ ap (λ b. (body_scope (scope_of c.args.scope.now) c.args.l.now.names b).fixed) c.as_slice.ensures in
+    let next = loop_region_begins (here c.args.self.now.program.now c.args.self.now.limit c.args.self.now.depth) (consumers_of c.args.consumers.now) (iterable_of c.args.goes_over) (region_of c.args.region.now) (scope_of c.args.scope.now) c.args.l.now.names c.args.l.now.body c.as_slice-2.result.now fixed (seen c.args.state.now) (seen c.start_region-begun.new.state) c.start_region-begun.result.outside c.start_region-begun.result.reached c.start_region-begun.ensures.new c.start_region-begun.ensures.outside c.start_region-begun.ensures.reached in
+    grind (arith, common_steps, next)
+
+pub region_of_loop-returns-in_err-flow : goal.region_of_loop-returns-in_err-flow
+unfolding bind pure
+region_of_loop-returns-in_err-flow g t c = let fixed : c.as_slice-2.result.now ≡ (body_scope (scope_of c.args.scope.now) c.args.l.now.names c.args.l.now.body).fixed = c.as_slice-2.ensures ∙ c.in_ok-fixed.ensures ∙ ap (λ b. (body_scope (scope_of c.args.scope.now) c.args.l.now.names b).fixed) c.as_slice.ensures in
+    let next = loop_region_begins (here c.args.self.now.program.now c.args.self.now.limit c.args.self.now.depth) (consumers_of c.args.consumers.now) (iterable_of c.args.goes_over) (region_of c.args.region.now) (scope_of c.args.scope.now) c.args.l.now.names c.args.l.now.body c.as_slice-2.result.now fixed (seen c.args.state.now) (seen c.start_region-begun.new.state) c.start_region-begun.result.outside c.start_region-begun.result.reached c.start_region-begun.ensures.new c.start_region-begun.ensures.outside c.start_region-begun.ensures.reached in
+    grind (arith, common_steps, next)
+
+pub region_of_loop-returns-in_err-finish_region : goal.region_of_loop-returns-in_err-finish_region
+unfolding bind pure
+region_of_loop-returns-in_err-finish_region g t c = let fixed : c.as_slice-2.result.now ≡ (body_scope (scope_of c.args.scope.now) c.args.l.now.names c.args.l.now.body).fixed = c.as_slice-2.ensures ∙ c.in_ok-fixed.ensures ∙ ap (λ b. (body_scope (scope_of c.args.scope.now) c.args.l.now.names b).fixed) c.as_slice.ensures in
+    let next = loop_region_begins (here c.args.self.now.program.now c.args.self.now.limit c.args.self.now.depth) (consumers_of c.args.consumers.now) (iterable_of c.args.goes_over) (region_of c.args.region.now) (scope_of c.args.scope.now) c.args.l.now.names c.args.l.now.body c.as_slice-2.result.now fixed (seen c.args.state.now) (seen c.start_region-begun.new.state) c.start_region-begun.result.outside c.start_region-begun.result.reached c.start_region-begun.ensures.new c.start_region-begun.ensures.outside c.start_region-begun.ensures.reached in
     grind (arith, common_steps, next)
 
 pub turns-turns-init : goal.turns-turns-init
