@@ -19,7 +19,18 @@ use crate::variables::{tick, wrong};
 use codon_base::{Object, Spelling, Value, Values};
 use std::alloc::Global;
 
-impl<'m, F: Fn(Global, &Prepared<'_>, u64, u32, &mut State, &[Consumer<'_>], Task<'_>) -> Result<Flow, Stop>> Runner<'m, F> {
+impl<
+    'm,
+    F: Fn(
+        Global,
+        &Prepared<'_>,
+        u64,
+        u32,
+        &mut State,
+        &[Consumer<'_>],
+        Task<'_>,
+    ) -> Result<Flow, Stop>,
+> Runner<'m, F> {
     /// Runs the body of a function on its arguments.
     fn enter(&self, state: &mut State, called: Called<'_>, given: &[Value]) -> Result<Value, Stop>
         requires { Nests self.now.program.now self.now.limit self.now.depth (F.pre self.now.low) (F.post self.now.low) }
@@ -28,14 +39,23 @@ impl<'m, F: Fn(Global, &Prepared<'_>, u64, u32, &mut State, &[Consumer<'_>], Tas
         tick(state, self.limit)?;
         let names = parameters(self.alloc, called.known.function.params.as_slice(), given)?;
         let outer = swap_names(state, names);
-        let flow = self.deeper(state, &[], Task::Enter(called.scope(), &called.known.function.body))?;
+        let flow = self.deeper(
+            state,
+            &[],
+            Task::Enter(called.scope(), &called.known.function.body),
+        )?;
         let _ = swap_names(state, outer);
         let v = result_of(self.alloc, called.known, flow)?;
         Ok(v)
     }
 
     /// A call of a function that is no generator.
-    pub(crate) fn call(&self, state: &mut State, called: Called<'_>, given: Values) -> Result<Value, Stop>
+    pub(crate) fn call(
+        &self,
+        state: &mut State,
+        called: Called<'_>,
+        given: Values,
+    ) -> Result<Value, Stop>
         requires { Nests self.now.program.now self.now.limit self.now.depth (F.pre self.now.low) (F.post self.now.low) }
         ensures { Tells (spec.call (here self.now.program.now self.now.limit self.now.depth) (known_of called.entry) given (seen state.old)) result state.new }
     {
@@ -49,7 +69,12 @@ impl<'m, F: Fn(Global, &Prepared<'_>, u64, u32, &mut State, &[Consumer<'_>], Tas
     }
 
     /// A new instance, whose fields its `__init__` sets, or which takes the arguments as its fields where there is none.
-    pub(crate) fn construct(&self, state: &mut State, c: Numbered<'_>, given: Values) -> Result<Value, Stop>
+    pub(crate) fn construct(
+        &self,
+        state: &mut State,
+        c: Numbered<'_>,
+        given: Values,
+    ) -> Result<Value, Stop>
         requires { Nests self.now.program.now self.now.limit self.now.depth (F.pre self.now.low) (F.post self.now.low) }
         ensures { Tells (spec.construct (here self.now.program.now self.now.limit self.now.depth) c.entry.number c.entry.class.now.class.now given (seen state.old)) result state.new }
     {
@@ -60,28 +85,59 @@ impl<'m, F: Fn(Global, &Prepared<'_>, u64, u32, &mut State, &[Consumer<'_>], Tas
                 if given.len() != c.class.fields.len() {
                     return Err(wrong(self.alloc));
                 }
-                allocate(state, Object::Instance { class: c.number, fields: given })
+                allocate(
+                    state,
+                    Object::Instance {
+                        class: c.number,
+                        fields: given,
+                    },
+                )
             }
         }
     }
 
-    fn construct_by(&self, state: &mut State, c: Numbered<'_>, known: &Known<'_>, given: Values) -> Result<Value, Stop>
+    fn construct_by(
+        &self,
+        state: &mut State,
+        c: Numbered<'_>,
+        known: &Known<'_>,
+        given: Values,
+    ) -> Result<Value, Stop>
         requires { Nests self.now.program.now self.now.limit self.now.depth (F.pre self.now.low) (F.post self.now.low) }
         ensures { Tells (spec.construct_by (here self.now.program.now self.now.limit self.now.depth) c.entry.number c.entry.class.now.class.now (Some known.now.function.now) given (seen state.old)) result state.new }
     {
         let fields = unset_fields(self.alloc, c.class.fields.as_slice())?;
-        let new = allocate(state, Object::Instance { class: c.number, fields })?;
+        let new = allocate(
+            state,
+            Object::Instance {
+                class: c.number,
+                fields,
+            },
+        )?;
         self.initialize(state, known, given, new)
     }
 
     /// Runs the `__init__` of a new instance.
-    fn initialize(&self, state: &mut State, known: &Known<'_>, given: Values, new: Value) -> Result<Value, Stop>
+    fn initialize(
+        &self,
+        state: &mut State,
+        known: &Known<'_>,
+        given: Values,
+        new: Value,
+    ) -> Result<Value, Stop>
         requires { Nests self.now.program.now self.now.limit self.now.depth (F.pre self.now.low) (F.post self.now.low) }
         ensures { Tells (spec.initialize (here self.now.program.now self.now.limit self.now.depth) known.now.function.now given new (seen state.old)) result state.new }
     {
         let first = new.try_clone(self.alloc)?;
         let given = with_first(self.alloc, first, given)?;
-        let _ = self.call(state, Called { known, in_prelude: false }, given)?;
+        let _ = self.call(
+            state,
+            Called {
+                known,
+                in_prelude: false,
+            },
+            given,
+        )?;
         Ok(new)
     }
 }

@@ -33,7 +33,12 @@ use std::alloc::Global;
 // ---- private names
 
 /// The private names of a parallel loop.
-fn private_names(alloc: Global, scope: &Scope<'_>, names: &LoopNames, body: &[Stmt]) -> Result<Items<Spelling>, Memory>
+fn private_names(
+    alloc: Global,
+    scope: &Scope<'_>,
+    names: &LoopNames,
+    body: &[Stmt],
+) -> Result<Items<Spelling>, Memory>
     ensures { IfOk result (λ own. own ≡ spec.private_names (scope_of scope.now) names.now body.now) }
 {
     let mut assigned = Items::new(alloc);
@@ -44,7 +49,12 @@ fn private_names(alloc: Global, scope: &Scope<'_>, names: &LoopNames, body: &[St
     Ok(own)
 }
 
-fn push_not_fixed(alloc: Global, scope: &Scope<'_>, assigned: &[Spelling], own: &mut Items<Spelling>) -> Result<(), Memory>
+fn push_not_fixed(
+    alloc: Global,
+    scope: &Scope<'_>,
+    assigned: &[Spelling],
+    own: &mut Items<Spelling>,
+) -> Result<(), Memory>
     ensures { OnOk result (own.new ≡ own.old ++ filter (λ name. not (is_among name (scope_of scope.now).fixed)) assigned.now) }
 {
     'assigned: for name in assigned {
@@ -56,7 +66,12 @@ fn push_not_fixed(alloc: Global, scope: &Scope<'_>, assigned: &[Spelling], own: 
 }
 
 /// The names that no region in the body of a parallel loop has as private ones.
-pub(crate) fn fixed_of(alloc: Global, scope: &Scope<'_>, names: &LoopNames, body: &[Stmt]) -> Result<Items<Spelling>, Memory>
+pub(crate) fn fixed_of(
+    alloc: Global,
+    scope: &Scope<'_>,
+    names: &LoopNames,
+    body: &[Stmt],
+) -> Result<Items<Spelling>, Memory>
     ensures { IfOk result (λ fixed. fixed ≡ (spec.body_scope (scope_of scope.now) names.now body.now).fixed) }
 {
     let mut fixed = Items::new(alloc);
@@ -76,7 +91,12 @@ fn push_names(alloc: Global, more: &[Spelling], names: &mut Items<Spelling>) -> 
 }
 
 /// The private names that are variables of the text, or those that are the module's.
-fn own_of(alloc: Global, scope: &Scope<'_>, own: &[Spelling], local: bool) -> Result<Items<Spelling>, Memory>
+fn own_of(
+    alloc: Global,
+    scope: &Scope<'_>,
+    own: &[Spelling],
+    local: bool,
+) -> Result<Items<Spelling>, Memory>
     ensures { IfOk result (λ names. names ≡ spec.own_of local (scope_of scope.now) own.now) }
 {
     let mut names = Items::new(alloc);
@@ -102,7 +122,14 @@ fn push_new(alloc: Global, name: &Spelling, names: &mut Items<Spelling>) -> Resu
 }
 
 /// Puts the variables round a text at the end that its notes mention, each once, but for names of its own.
-fn push_outer_names(alloc: Global, program: &Prepared<'_>, scope: &Scope<'_>, own: &[Spelling], notes: &[Note<'_>], names: &mut Items<Spelling>) -> Result<(), Memory>
+fn push_outer_names(
+    alloc: Global,
+    program: &Prepared<'_>,
+    scope: &Scope<'_>,
+    own: &[Spelling],
+    notes: &[Note<'_>],
+    names: &mut Items<Spelling>,
+) -> Result<(), Memory>
     ensures { OnOk result (names.new ≡ names.old ++ spec.each_new names.old (filter (λ name. is_variable (program_of program.now) (scope_of scope.now) name && not (is_among name own.now)) (mentions.mentioned (noted notes.now)))) }
 {
     'notes: for note in notes {
@@ -128,7 +155,14 @@ fn is_outer(program: &Prepared<'_>, scope: &Scope<'_>, own: &[Spelling], name: &
 }
 
 /// Puts the module's variables at the end that notes mention, each once, without those that were read already.
-fn push_module_names(alloc: Global, program: &Prepared<'_>, scope: &Scope<'_>, outer: &[Spelling], notes: &[Note<'_>], names: &mut Items<Spelling>) -> Result<(), Memory>
+fn push_module_names(
+    alloc: Global,
+    program: &Prepared<'_>,
+    scope: &Scope<'_>,
+    outer: &[Spelling],
+    notes: &[Note<'_>],
+    names: &mut Items<Spelling>,
+) -> Result<(), Memory>
     ensures { OnOk result (names.new ≡ names.old ++ spec.each_new names.old (filter (λ name. is_among name (program_of program.now).variables && not (is_among name outer.now && not (is_among name (scope_of scope.now).locals))) (mentions.mentioned (noted notes.now)))) }
 {
     'notes: for note in notes {
@@ -178,7 +212,13 @@ pub(crate) struct Captured<'a> {
     pub(crate) value: Value,
 }
 
-fn capture<'a>(alloc: Global, state: &mut State, program: &Prepared<'_>, scope: &Scope<'_>, names: &'a [Spelling]) -> Result<Vec<Captured<'a>>, Stop>
+fn capture<'a>(
+    alloc: Global,
+    state: &mut State,
+    program: &Prepared<'_>,
+    scope: &Scope<'_>,
+    names: &'a [Spelling],
+) -> Result<Vec<Captured<'a>>, Stop>
     ensures { TellsBy (λ (captured : _). map captured_of captured.items) (spec.capture (program_of program.now) (scope_of scope.now) names.now (seen state.old)) result state.new }
 {
     let mut captured = Vec::new(alloc);
@@ -190,7 +230,12 @@ fn capture<'a>(alloc: Global, state: &mut State, program: &Prepared<'_>, scope: 
 }
 
 /// Puts the addresses at the end of the lists that names hold which are lent.
-fn push_lists(heap: &Heap, captured: &[Captured<'_>], lent: &[Spelling], refs: &mut Items<Ref>) -> Result<(), Memory>
+fn push_lists(
+    heap: &Heap,
+    captured: &[Captured<'_>],
+    lent: &[Spelling],
+    refs: &mut Items<Ref>,
+) -> Result<(), Memory>
     ensures { OnOk result (refs.new ≡ refs.old ++ spec.held spec.is_list heap.now (filter (λ each. is_among each.name lent.now) (map captured_of captured.now))) }
 {
     'captured: for each in captured {
@@ -225,13 +270,22 @@ fn is_list(heap: &Heap, at: Ref) -> bool
 {
     match heap.get(at) {
         Some(Object::List(_)) => true,
-        Some(Object::Instance { class: _, fields: _ }) => false,
+        Some(
+            Object::Instance {
+                class: _,
+                fields: _,
+            },
+        ) => false,
         None => false,
     }
 }
 
 /// Puts the addresses at the end of the instances that names hold.
-fn push_instances(heap: &Heap, captured: &[Captured<'_>], refs: &mut Items<Ref>) -> Result<(), Memory>
+fn push_instances(
+    heap: &Heap,
+    captured: &[Captured<'_>],
+    refs: &mut Items<Ref>,
+) -> Result<(), Memory>
     ensures { OnOk result (refs.new ≡ refs.old ++ spec.held spec.is_instance heap.now (map captured_of captured.now)) }
 {
     'captured: for each in captured {
@@ -263,14 +317,27 @@ fn is_instance(heap: &Heap, at: Ref) -> bool
     ensures { result ≡ spec.is_instance (object_at heap.now at) }
 {
     match heap.get(at) {
-        Some(Object::Instance { class: _, fields: _ }) => true,
+        Some(
+            Object::Instance {
+                class: _,
+                fields: _,
+            },
+        ) => true,
         Some(Object::List(_)) => false,
         None => false,
     }
 }
 
 #[tactic(auto, unfolding(crate::specs::Seen::seen))]
-fn region_of(alloc: Global, heap: &Heap, scope: &Scope<'_>, own: &[Spelling], lent: &[Spelling], outer: &[Captured<'_>], others: &[Captured<'_>]) -> Result<Region, Memory>
+fn region_of(
+    alloc: Global,
+    heap: &Heap,
+    scope: &Scope<'_>,
+    own: &[Spelling],
+    lent: &[Spelling],
+    outer: &[Captured<'_>],
+    others: &[Captured<'_>],
+) -> Result<Region, Memory>
     ensures { IfOk result (λ region. region_of region ≡ spec.region_of (scope_of scope.now) own.now lent.now heap.now (map captured_of outer.now) (map captured_of others.now)) }
 {
     let mut lists = Items::new(alloc);
@@ -280,11 +347,20 @@ fn region_of(alloc: Global, heap: &Heap, scope: &Scope<'_>, own: &[Spelling], le
     push_instances(heap, others, &mut targets)?;
     let local = own_of(alloc, scope, own, true)?;
     let own_globals = own_of(alloc, scope, own, false)?;
-    Ok(Region { lent: lists, targets, own: local, own_globals })
+    Ok(Region {
+        lent: lists,
+        targets,
+        own: local,
+        own_globals,
+    })
 }
 
 /// The notes of the functions and methods that a text reaches, but for their own names.
-fn reached_notes<'m>(alloc: Global, program: &Prepared<'m>, notes: &[Note<'m>]) -> Result<Vec<Note<'m>>, Memory>
+fn reached_notes<'m>(
+    alloc: Global,
+    program: &Prepared<'m>,
+    notes: &[Note<'m>],
+) -> Result<Vec<Note<'m>>, Memory>
     ensures { IfOk result (λ outside. noted outside.items ≡ flat_map spec.notes_outside (spec.reached (program_of program.now) (noted notes.now))) }
 {
     let flags = reached_flags(alloc, &program.callables, notes)?;
@@ -295,7 +371,13 @@ fn reached_notes<'m>(alloc: Global, program: &Prepared<'m>, notes: &[Note<'m>]) 
 }
 
 /// The module's variables that the functions mention that a text reaches, without those that were read already.
-fn module_names(alloc: Global, program: &Prepared<'_>, scope: &Scope<'_>, outer: &[Spelling], notes: &[Note<'_>]) -> Result<Items<Spelling>, Memory>
+fn module_names(
+    alloc: Global,
+    program: &Prepared<'_>,
+    scope: &Scope<'_>,
+    outer: &[Spelling],
+    notes: &[Note<'_>],
+) -> Result<Items<Spelling>, Memory>
     ensures { IfOk result (λ names. names ≡ spec.module_names (program_of program.now) (scope_of scope.now) outer.now (noted notes.now)) }
 {
     let outside = reached_notes(alloc, program, notes)?;
@@ -305,30 +387,63 @@ fn module_names(alloc: Global, program: &Prepared<'_>, scope: &Scope<'_>, outer:
 }
 
 /// A region with these private names and these notes of its text, which lends the lists of these names.
-fn begin(alloc: Global, state: &mut State, program: &Prepared<'_>, scope: &Scope<'_>, own: &[Spelling], notes: &[Note<'_>], lent: &[Spelling]) -> Result<Region, Stop>
+fn begin(
+    alloc: Global,
+    state: &mut State,
+    program: &Prepared<'_>,
+    scope: &Scope<'_>,
+    own: &[Spelling],
+    notes: &[Note<'_>],
+    lent: &[Spelling],
+) -> Result<Region, Stop>
     ensures { TellsBy region_of (spec.begin (program_of program.now) (scope_of scope.now) own.now (noted notes.now) lent.now (seen state.old)) result state.new }
 {
     let mut names = Items::new(alloc);
     push_outer_names(alloc, program, scope, own, notes, &mut names)?;
     let outer = capture(alloc, state, program, scope, names.as_slice())?;
-    let outside = Scope { inner: &[], locals: &[], fixed: scope.fixed, in_prelude: scope.in_prelude };
+    let outside = Scope {
+        inner: &[],
+        locals: &[],
+        fixed: scope.fixed,
+        in_prelude: scope.in_prelude,
+    };
     let others = module_names(alloc, program, scope, names.as_slice(), notes)?;
     let others = capture(alloc, state, program, &outside, others.as_slice())?;
     Ok(region_of(alloc, &state.store.heap, scope, own, lent, &outer, &others)?)
 }
 
 /// What a parallel loop is when it begins. It lends lists where it goes over a range.
-pub(crate) fn begin_loop(alloc: Global, state: &mut State, program: &Prepared<'_>, scope: &Scope<'_>, names: &LoopNames, over_range: bool, body: &Items<Stmt>) -> Result<Region, Stop>
+pub(crate) fn begin_loop(
+    alloc: Global,
+    state: &mut State,
+    program: &Prepared<'_>,
+    scope: &Scope<'_>,
+    names: &LoopNames,
+    over_range: bool,
+    body: &Items<Stmt>,
+) -> Result<Region, Stop>
     ensures { TellsBy region_of (spec.begin_loop (program_of program.now) (scope_of scope.now) names.now over_range body.now (seen state.old)) result state.new }
 {
     let mut notes = Vec::new(alloc);
     note_body(alloc, body.as_slice(), &mut notes)?;
     let own = private_names(alloc, scope, names, body.as_slice())?;
     let lent = lent_names(alloc, over_range, &notes)?;
-    begin(alloc, state, program, scope, own.as_slice(), &notes, lent.as_slice())
+    begin(
+        alloc,
+        state,
+        program,
+        scope,
+        own.as_slice(),
+        &notes,
+        lent.as_slice(),
+    )
 }
 
-fn lent_names(alloc: Global, over_range: bool, notes: &[Note<'_>]) -> Result<Items<Spelling>, Memory>
+fn lent_names(
+    alloc: Global,
+    over_range: bool,
+    notes: &[Note<'_>],
+) -> Result<Items<Spelling>, Memory>
     ensures { IfOk result (λ names. names ≡ (if over_range then mentions.written_places (noted notes.now) else [])) }
 {
     if over_range {
@@ -339,7 +454,14 @@ fn lent_names(alloc: Global, over_range: bool, notes: &[Note<'_>]) -> Result<Ite
 }
 
 /// What the region is when it begins whose first stage is at this place.
-pub(crate) fn begin_stages(alloc: Global, state: &mut State, program: &Prepared<'_>, scope: &Scope<'_>, stages: &Items<Stage>, from: usize) -> Result<Region, Stop>
+pub(crate) fn begin_stages(
+    alloc: Global,
+    state: &mut State,
+    program: &Prepared<'_>,
+    scope: &Scope<'_>,
+    stages: &Items<Stage>,
+    from: usize,
+) -> Result<Region, Stop>
     ensures { TellsBy region_of (spec.begin (program_of program.now) (scope_of scope.now) [] (mentions.notes_of_stages (drop from stages.now)) [] (seen state.old)) result state.new }
 {
     let mut notes = Vec::new(alloc);

@@ -59,7 +59,18 @@ fn text_value(alloc: Global, state: &State, text: &Text) -> Result<Value, Stop>
     Ok(Value::Text(text))
 }
 
-impl<'m, F: Fn(Global, &Prepared<'_>, u64, u32, &mut State, &[Consumer<'_>], Task<'_>) -> Result<Flow, Stop>> Runner<'m, F> {
+impl<
+    'm,
+    F: Fn(
+        Global,
+        &Prepared<'_>,
+        u64,
+        u32,
+        &mut State,
+        &[Consumer<'_>],
+        Task<'_>,
+    ) -> Result<Flow, Stop>,
+> Runner<'m, F> {
     /// What an expression gives.
     #[cycle(expression)]
     pub(crate) fn expr(&self, state: &mut State, scope: &Scope<'_>, e: &Expr) -> Result<Value, Stop>
@@ -76,7 +87,9 @@ impl<'m, F: Fn(Global, &Prepared<'_>, u64, u32, &mut State, &[Consumer<'_>], Tas
             Expr::Bracketed(_, inner) => self.expr(state, scope, inner.get()),
             Expr::Tuple(_, _, items) => self.tuple(state, scope, items),
             Expr::List(_, items) => self.list(state, scope, items),
-            Expr::Conditional(_, first, condition, other) => self.conditional(state, scope, e, first, condition, other),
+            Expr::Conditional(_, first, condition, other) => self.conditional(
+                state, scope, e, first, condition, other,
+            ),
             Expr::Or(_, operands) => self.some_true(state, scope, operands.as_slice()),
             Expr::And(_, operands) => self.all_true(state, scope, operands.as_slice()),
             Expr::Not(_, operand) => self.negated(state, scope, operand),
@@ -84,17 +97,26 @@ impl<'m, F: Fn(Global, &Prepared<'_>, u64, u32, &mut State, &[Consumer<'_>], Tas
             Expr::Binary(_, by, left, right) => self.binary(state, scope, e, *by, left, right),
             Expr::Index(_, container, index) => self.index(state, scope, e, container, index),
             Expr::Field(_, object, name) => self.field(state, scope, object, name),
-            Expr::Comprehension(_, item, names, iterable, condition) => self.comprehended(state, scope, e, iterable, names, item, condition),
+            Expr::Comprehension(_, item, names, iterable, condition) => self.comprehended(
+                state, scope, e, iterable, names, item, condition,
+            ),
             Expr::Compare(_, first, others) => self.comparison(state, scope, e, first, others),
             Expr::Call(_, name, parts) => self.called(state, scope, &name.spelling, parts),
-            Expr::MethodCall(_, _, object, name, parts) => self.method_called(state, scope, e, object, name, parts),
+            Expr::MethodCall(_, _, object, name, parts) => self.method_called(
+                state, scope, e, object, name, parts,
+            ),
             Expr::Slice(_, part, from, to) => self.sliced(state, scope, e, part, from, to),
         }
     }
 
     /// `(a, b)`.
     #[cycle(expression)]
-    fn tuple(&self, state: &mut State, scope: &Scope<'_>, items: &Items<Expr>) -> Result<Value, Stop>
+    fn tuple(
+        &self,
+        state: &mut State,
+        scope: &Scope<'_>,
+        items: &Items<Expr>,
+    ) -> Result<Value, Stop>
         requires { Nests self.now.program.now self.now.limit self.now.depth (F.pre self.now.low) (F.post self.now.low) }
         ensures { Tells (lists.tuple (here self.now.program.now self.now.limit self.now.depth) (scope_of scope.now) items.now (seen state.old)) result state.new }
     {
@@ -114,7 +136,15 @@ impl<'m, F: Fn(Global, &Prepared<'_>, u64, u32, &mut State, &[Consumer<'_>], Tas
 
     /// `first if condition else other`.
     #[cycle(expression)]
-    fn conditional(&self, state: &mut State, scope: &Scope<'_>, e: &Expr, first: &Boxed<Expr>, condition: &Boxed<Expr>, other: &Boxed<Expr>) -> Result<Value, Stop>
+    fn conditional(
+        &self,
+        state: &mut State,
+        scope: &Scope<'_>,
+        e: &Expr,
+        first: &Boxed<Expr>,
+        condition: &Boxed<Expr>,
+        other: &Boxed<Expr>,
+    ) -> Result<Value, Stop>
         requires nests { Nests self.now.program.now self.now.limit self.now.depth (F.pre self.now.low) (F.post self.now.low) }
         requires form { IsConditional e.now first.now condition.now other.now }
         ensures { Tells (lists.conditional (here self.now.program.now self.now.limit self.now.depth) (scope_of scope.now) first.now condition.now other.now (seen state.old)) result state.new }
@@ -128,7 +158,12 @@ impl<'m, F: Fn(Global, &Prepared<'_>, u64, u32, &mut State, &[Consumer<'_>], Tas
 
     /// `not operand`.
     #[cycle(expression)]
-    fn negated(&self, state: &mut State, scope: &Scope<'_>, operand: &Boxed<Expr>) -> Result<Value, Stop>
+    fn negated(
+        &self,
+        state: &mut State,
+        scope: &Scope<'_>,
+        operand: &Boxed<Expr>,
+    ) -> Result<Value, Stop>
         requires { Nests self.now.program.now self.now.limit self.now.depth (F.pre self.now.low) (F.post self.now.low) }
         ensures { Tells (lists.negated (here self.now.program.now self.now.limit self.now.depth) (scope_of scope.now) operand.now (seen state.old)) result state.new }
     {
@@ -138,7 +173,13 @@ impl<'m, F: Fn(Global, &Prepared<'_>, u64, u32, &mut State, &[Consumer<'_>], Tas
 
     /// `by operand`.
     #[cycle(expression)]
-    fn unary(&self, state: &mut State, scope: &Scope<'_>, by: UnaryOp, operand: &Boxed<Expr>) -> Result<Value, Stop>
+    fn unary(
+        &self,
+        state: &mut State,
+        scope: &Scope<'_>,
+        by: UnaryOp,
+        operand: &Boxed<Expr>,
+    ) -> Result<Value, Stop>
         requires { Nests self.now.program.now self.now.limit self.now.depth (F.pre self.now.low) (F.post self.now.low) }
         ensures { Tells (lists.unary (here self.now.program.now self.now.limit self.now.depth) (scope_of scope.now) by operand.now (seen state.old)) result state.new }
     {
@@ -148,7 +189,15 @@ impl<'m, F: Fn(Global, &Prepared<'_>, u64, u32, &mut State, &[Consumer<'_>], Tas
 
     /// `left by right`.
     #[cycle(expression)]
-    fn binary(&self, state: &mut State, scope: &Scope<'_>, e: &Expr, by: BinaryOp, left: &Boxed<Expr>, right: &Boxed<Expr>) -> Result<Value, Stop>
+    fn binary(
+        &self,
+        state: &mut State,
+        scope: &Scope<'_>,
+        e: &Expr,
+        by: BinaryOp,
+        left: &Boxed<Expr>,
+        right: &Boxed<Expr>,
+    ) -> Result<Value, Stop>
         requires nests { Nests self.now.program.now self.now.limit self.now.depth (F.pre self.now.low) (F.post self.now.low) }
         requires form { IsBinary e.now by left.now right.now }
         ensures { Tells (lists.binary_of (here self.now.program.now self.now.limit self.now.depth) (scope_of scope.now) by left.now right.now (seen state.old)) result state.new }
@@ -160,7 +209,14 @@ impl<'m, F: Fn(Global, &Prepared<'_>, u64, u32, &mut State, &[Consumer<'_>], Tas
 
     /// `container[index]`.
     #[cycle(expression)]
-    fn index(&self, state: &mut State, scope: &Scope<'_>, e: &Expr, container: &Boxed<Expr>, index: &Boxed<Expr>) -> Result<Value, Stop>
+    fn index(
+        &self,
+        state: &mut State,
+        scope: &Scope<'_>,
+        e: &Expr,
+        container: &Boxed<Expr>,
+        index: &Boxed<Expr>,
+    ) -> Result<Value, Stop>
         requires nests { Nests self.now.program.now self.now.limit self.now.depth (F.pre self.now.low) (F.post self.now.low) }
         requires form { IsIndex e.now container.now index.now }
         ensures { Tells (lists.index (here self.now.program.now self.now.limit self.now.depth) (scope_of scope.now) container.now index.now (seen state.old)) result state.new }
@@ -172,7 +228,13 @@ impl<'m, F: Fn(Global, &Prepared<'_>, u64, u32, &mut State, &[Consumer<'_>], Tas
 
     /// `object.name`.
     #[cycle(expression)]
-    fn field(&self, state: &mut State, scope: &Scope<'_>, object: &Boxed<Expr>, name: &Spelling) -> Result<Value, Stop>
+    fn field(
+        &self,
+        state: &mut State,
+        scope: &Scope<'_>,
+        object: &Boxed<Expr>,
+        name: &Spelling,
+    ) -> Result<Value, Stop>
         requires { Nests self.now.program.now self.now.limit self.now.depth (F.pre self.now.low) (F.post self.now.low) }
         ensures { Tells (lists.field_of (here self.now.program.now self.now.limit self.now.depth) (scope_of scope.now) object.now name.now (seen state.old)) result state.new }
     {
@@ -182,7 +244,16 @@ impl<'m, F: Fn(Global, &Prepared<'_>, u64, u32, &mut State, &[Consumer<'_>], Tas
 
     /// `[item for names in iterable if condition]`.
     #[cycle(expression)]
-    fn comprehended(&self, state: &mut State, scope: &Scope<'_>, e: &Expr, iterable: &Boxed<Expr>, names: &LoopNames, item: &Boxed<Expr>, condition: &Option<Boxed<Expr>>) -> Result<Value, Stop>
+    fn comprehended(
+        &self,
+        state: &mut State,
+        scope: &Scope<'_>,
+        e: &Expr,
+        iterable: &Boxed<Expr>,
+        names: &LoopNames,
+        item: &Boxed<Expr>,
+        condition: &Option<Boxed<Expr>>,
+    ) -> Result<Value, Stop>
         requires nests { Nests self.now.program.now self.now.limit self.now.depth (F.pre self.now.low) (F.post self.now.low) }
         requires form { Comprehends e.now names.now iterable.now condition.now item.now }
         ensures { Tells (lists.comprehension (here self.now.program.now self.now.limit self.now.depth) (scope_of scope.now) names.now iterable.now condition.now item.now (seen state.old)) result state.new }
@@ -193,7 +264,14 @@ impl<'m, F: Fn(Global, &Prepared<'_>, u64, u32, &mut State, &[Consumer<'_>], Tas
 
     /// A chain of comparisons.
     #[cycle(expression)]
-    fn comparison(&self, state: &mut State, scope: &Scope<'_>, e: &Expr, first: &Boxed<Expr>, others: &Items<Comparison>) -> Result<Value, Stop>
+    fn comparison(
+        &self,
+        state: &mut State,
+        scope: &Scope<'_>,
+        e: &Expr,
+        first: &Boxed<Expr>,
+        others: &Items<Comparison>,
+    ) -> Result<Value, Stop>
         requires nests { Nests self.now.program.now self.now.limit self.now.depth (F.pre self.now.low) (F.post self.now.low) }
         requires form { IsCompare e.now first.now others.now }
         ensures { Tells (lists.comparison (here self.now.program.now self.now.limit self.now.depth) (scope_of scope.now) first.now others.now (seen state.old)) result state.new }
@@ -204,7 +282,15 @@ impl<'m, F: Fn(Global, &Prepared<'_>, u64, u32, &mut State, &[Consumer<'_>], Tas
 
     /// `object.name(parts)`.
     #[cycle(expression)]
-    fn method_called(&self, state: &mut State, scope: &Scope<'_>, e: &Expr, object: &Boxed<Expr>, name: &Spelling, parts: &Items<Expr>) -> Result<Value, Stop>
+    fn method_called(
+        &self,
+        state: &mut State,
+        scope: &Scope<'_>,
+        e: &Expr,
+        object: &Boxed<Expr>,
+        name: &Spelling,
+        parts: &Items<Expr>,
+    ) -> Result<Value, Stop>
         requires nests { Nests self.now.program.now self.now.limit self.now.depth (F.pre self.now.low) (F.post self.now.low) }
         requires form { IsMethodCall e.now object.now name.now parts.now }
         ensures { Tells (lists.method_called (here self.now.program.now self.now.limit self.now.depth) (scope_of scope.now) object.now name.now parts.now (seen state.old)) result state.new }
@@ -216,7 +302,15 @@ impl<'m, F: Fn(Global, &Prepared<'_>, u64, u32, &mut State, &[Consumer<'_>], Tas
 
     /// `part[from:to]`.
     #[cycle(expression)]
-    fn sliced(&self, state: &mut State, scope: &Scope<'_>, e: &Expr, part: &Boxed<Expr>, from: &Option<Boxed<Expr>>, to: &Option<Boxed<Expr>>) -> Result<Value, Stop>
+    fn sliced(
+        &self,
+        state: &mut State,
+        scope: &Scope<'_>,
+        e: &Expr,
+        part: &Boxed<Expr>,
+        from: &Option<Boxed<Expr>>,
+        to: &Option<Boxed<Expr>>,
+    ) -> Result<Value, Stop>
         requires nests { Nests self.now.program.now self.now.limit self.now.depth (F.pre self.now.low) (F.post self.now.low) }
         requires form { IsSlice e.now part.now from.now to.now }
         ensures { Tells (lists.sliced (here self.now.program.now self.now.limit self.now.depth) (scope_of scope.now) part.now from.now to.now (seen state.old)) result state.new }
@@ -229,7 +323,12 @@ impl<'m, F: Fn(Global, &Prepared<'_>, u64, u32, &mut State, &[Consumer<'_>], Tas
 
     /// What expressions give, in order.
     #[cycle(expression)]
-    pub(crate) fn exprs(&self, state: &mut State, scope: &Scope<'_>, items: &[Expr]) -> Result<Values, Stop>
+    pub(crate) fn exprs(
+        &self,
+        state: &mut State,
+        scope: &Scope<'_>,
+        items: &[Expr],
+    ) -> Result<Values, Stop>
         requires { Nests self.now.program.now self.now.limit self.now.depth (F.pre self.now.low) (F.post self.now.low) }
         ensures { Tells (spec.exprs (here self.now.program.now self.now.limit self.now.depth) (scope_of scope.now) items.now (seen state.old)) result state.new }
     {
@@ -242,7 +341,12 @@ impl<'m, F: Fn(Global, &Prepared<'_>, u64, u32, &mut State, &[Consumer<'_>], Tas
 
     /// Whether a condition holds.
     #[cycle(expression)]
-    pub(crate) fn condition(&self, state: &mut State, scope: &Scope<'_>, e: &Expr) -> Result<bool, Stop>
+    pub(crate) fn condition(
+        &self,
+        state: &mut State,
+        scope: &Scope<'_>,
+        e: &Expr,
+    ) -> Result<bool, Stop>
         requires { Nests self.now.program.now self.now.limit self.now.depth (F.pre self.now.low) (F.post self.now.low) }
         ensures { Tells (spec.condition (here self.now.program.now self.now.limit self.now.depth) (scope_of scope.now) e.now (seen state.old)) result state.new }
     {
@@ -251,7 +355,12 @@ impl<'m, F: Fn(Global, &Prepared<'_>, u64, u32, &mut State, &[Consumer<'_>], Tas
     }
 
     #[cycle(expression)]
-    fn some_true(&self, state: &mut State, scope: &Scope<'_>, operands: &[Expr]) -> Result<Value, Stop>
+    fn some_true(
+        &self,
+        state: &mut State,
+        scope: &Scope<'_>,
+        operands: &[Expr],
+    ) -> Result<Value, Stop>
         requires { Nests self.now.program.now self.now.limit self.now.depth (F.pre self.now.low) (F.post self.now.low) }
         ensures { Tells (some_true (here self.now.program.now self.now.limit self.now.depth) (scope_of scope.now) operands.now (seen state.old)) result state.new }
     {
@@ -264,7 +373,12 @@ impl<'m, F: Fn(Global, &Prepared<'_>, u64, u32, &mut State, &[Consumer<'_>], Tas
     }
 
     #[cycle(expression)]
-    fn all_true(&self, state: &mut State, scope: &Scope<'_>, operands: &[Expr]) -> Result<Value, Stop>
+    fn all_true(
+        &self,
+        state: &mut State,
+        scope: &Scope<'_>,
+        operands: &[Expr],
+    ) -> Result<Value, Stop>
         requires { Nests self.now.program.now self.now.limit self.now.depth (F.pre self.now.low) (F.post self.now.low) }
         ensures { Tells (all_true (here self.now.program.now self.now.limit self.now.depth) (scope_of scope.now) operands.now (seen state.old)) result state.new }
     {
@@ -278,7 +392,12 @@ impl<'m, F: Fn(Global, &Prepared<'_>, u64, u32, &mut State, &[Consumer<'_>], Tas
 
     /// A bound of a slice, which is None where it is not written.
     #[cycle(expression)]
-    fn bound(&self, state: &mut State, scope: &Scope<'_>, e: &Option<Boxed<Expr>>) -> Result<Value, Stop>
+    fn bound(
+        &self,
+        state: &mut State,
+        scope: &Scope<'_>,
+        e: &Option<Boxed<Expr>>,
+    ) -> Result<Value, Stop>
         requires { Nests self.now.program.now self.now.limit self.now.depth (F.pre self.now.low) (F.post self.now.low) }
         ensures { Tells (bound (here self.now.program.now self.now.limit self.now.depth) (scope_of scope.now) e.now (seen state.old)) result state.new }
     {
@@ -290,7 +409,12 @@ impl<'m, F: Fn(Global, &Prepared<'_>, u64, u32, &mut State, &[Consumer<'_>], Tas
 
     /// The condition of a comprehension, which holds where it is not written.
     #[cycle(expression)]
-    fn kept(&self, state: &mut State, scope: &Scope<'_>, e: &Option<Boxed<Expr>>) -> Result<bool, Stop>
+    fn kept(
+        &self,
+        state: &mut State,
+        scope: &Scope<'_>,
+        e: &Option<Boxed<Expr>>,
+    ) -> Result<bool, Stop>
         requires { Nests self.now.program.now self.now.limit self.now.depth (F.pre self.now.low) (F.post self.now.low) }
         ensures { Tells (condition_of (here self.now.program.now self.now.limit self.now.depth) (scope_of scope.now) e.now (seen state.old)) result state.new }
     {
@@ -303,7 +427,13 @@ impl<'m, F: Fn(Global, &Prepared<'_>, u64, u32, &mut State, &[Consumer<'_>], Tas
     /// The rest of a chain of comparisons, by its left operand.
     #[cycle(expression)]
     #[tactic(auto, unfolding(crate::specs::Outcome::bind, crate::specs::Outcome::pure, crate::specs::Outcome::stop), using(crate::proofs::Parts::chain_rules))]
-    fn chain(&self, state: &mut State, scope: &Scope<'_>, others: &[Comparison], first: Value) -> Result<Value, Stop>
+    fn chain(
+        &self,
+        state: &mut State,
+        scope: &Scope<'_>,
+        others: &[Comparison],
+        first: Value,
+    ) -> Result<Value, Stop>
         requires { Nests self.now.program.now self.now.limit self.now.depth (F.pre self.now.low) (F.post self.now.low) }
         ensures { Tells (chained (here self.now.program.now self.now.limit self.now.depth) (scope_of scope.now) others.now first (seen state.old)) result state.new }
     {
@@ -319,18 +449,34 @@ impl<'m, F: Fn(Global, &Prepared<'_>, u64, u32, &mut State, &[Consumer<'_>], Tas
 
     /// The right operand of a comparison, where it holds.
     #[cycle(expression)]
-    fn compare(&self, state: &mut State, scope: &Scope<'_>, each: &Comparison, v: Value) -> Result<Option<Value>, Stop>
+    fn compare(
+        &self,
+        state: &mut State,
+        scope: &Scope<'_>,
+        each: &Comparison,
+        v: Value,
+    ) -> Result<Option<Value>, Stop>
         requires { Nests self.now.program.now self.now.limit self.now.depth (F.pre self.now.low) (F.post self.now.low) }
         ensures { Tells (compares (here self.now.program.now self.now.limit self.now.depth) (scope_of scope.now) each.now v (seen state.old)) result state.new }
     {
         let w = self.expr(state, scope, &each.right)?;
         let made = compared(self.alloc, state, each.comparator, &v, &w)?;
-        if truth(self.alloc, state, &made)? { Ok(Some(w)) } else { Ok(None) }
+        if truth(self.alloc, state, &made)? {
+            Ok(Some(w))
+        } else {
+            Ok(None)
+        }
     }
 
     /// A call by name.
     #[cycle(expression)]
-    fn called(&self, state: &mut State, scope: &Scope<'_>, name: &Spelling, parts: &Items<Expr>) -> Result<Value, Stop>
+    fn called(
+        &self,
+        state: &mut State,
+        scope: &Scope<'_>,
+        name: &Spelling,
+        parts: &Items<Expr>,
+    ) -> Result<Value, Stop>
         requires { Nests self.now.program.now self.now.limit self.now.depth (F.pre self.now.low) (F.post self.now.low) }
         ensures { Tells (called (here self.now.program.now self.now.limit self.now.depth) (scope_of scope.now) name.now parts.now (seen state.old)) result state.new }
     {
@@ -354,7 +500,13 @@ impl<'m, F: Fn(Global, &Prepared<'_>, u64, u32, &mut State, &[Consumer<'_>], Tas
 
     /// A builtin on what is written there.
     #[cycle(expression)]
-    fn standard(&self, state: &mut State, scope: &Scope<'_>, which: Builtin, parts: &[Expr]) -> Result<Value, Stop>
+    fn standard(
+        &self,
+        state: &mut State,
+        scope: &Scope<'_>,
+        which: Builtin,
+        parts: &[Expr],
+    ) -> Result<Value, Stop>
         requires { Nests self.now.program.now self.now.limit self.now.depth (F.pre self.now.low) (F.post self.now.low) }
         ensures { Tells (standard (here self.now.program.now self.now.limit self.now.depth) (scope_of scope.now) (builtin_of which) parts.now (seen state.old)) result state.new }
     {
@@ -383,20 +535,35 @@ impl<'m, F: Fn(Global, &Prepared<'_>, u64, u32, &mut State, &[Consumer<'_>], Tas
 
     /// What a loop goes over.
     #[cycle(expression)]
-    pub(crate) fn iterable(&self, state: &mut State, scope: &Scope<'_>, e: &Expr) -> Result<Iterable<'m>, Stop>
+    pub(crate) fn iterable(
+        &self,
+        state: &mut State,
+        scope: &Scope<'_>,
+        e: &Expr,
+    ) -> Result<Iterable<'m>, Stop>
         requires { Nests self.now.program.now self.now.limit self.now.depth (F.pre self.now.low) (F.post self.now.low) }
         ensures { TellsBy iterable_of (spec.iterable (here self.now.program.now self.now.limit self.now.depth) (scope_of scope.now) e.now (seen state.old)) result state.new }
     {
         match e {
             Expr::Call(_, name, parts) => self.called_iterable(state, scope, &name.spelling, parts),
-            Expr::MethodCall(_, _, object, name, parts) => self.method_iterable(state, scope, e, object, name, parts),
+            Expr::MethodCall(_, _, object, name, parts) => self.method_iterable(
+                state, scope, e, object, name, parts,
+            ),
             _ => self.value_iterable(state, scope, e),
         }
     }
 
     /// What a loop goes over that a call of a method gives.
     #[cycle(expression)]
-    fn method_iterable(&self, state: &mut State, scope: &Scope<'_>, e: &Expr, object: &Boxed<Expr>, name: &Spelling, parts: &Items<Expr>) -> Result<Iterable<'m>, Stop>
+    fn method_iterable(
+        &self,
+        state: &mut State,
+        scope: &Scope<'_>,
+        e: &Expr,
+        object: &Boxed<Expr>,
+        name: &Spelling,
+        parts: &Items<Expr>,
+    ) -> Result<Iterable<'m>, Stop>
         requires nests { Nests self.now.program.now self.now.limit self.now.depth (F.pre self.now.low) (F.post self.now.low) }
         requires form { IsMethodCall e.now object.now name.now parts.now }
         ensures { TellsBy iterable_of (lists.method_iterable (here self.now.program.now self.now.limit self.now.depth) (scope_of scope.now) object.now name.now parts.now (seen state.old)) result state.new }
@@ -408,7 +575,12 @@ impl<'m, F: Fn(Global, &Prepared<'_>, u64, u32, &mut State, &[Consumer<'_>], Tas
 
     /// What a loop goes over that is no call.
     #[cycle(expression)]
-    fn value_iterable(&self, state: &mut State, scope: &Scope<'_>, e: &Expr) -> Result<Iterable<'m>, Stop>
+    fn value_iterable(
+        &self,
+        state: &mut State,
+        scope: &Scope<'_>,
+        e: &Expr,
+    ) -> Result<Iterable<'m>, Stop>
         requires nests { Nests self.now.program.now self.now.limit self.now.depth (F.pre self.now.low) (F.post self.now.low) }
         requires form { IsNoCall e.now }
         ensures { TellsBy iterable_of (spec.iterable (here self.now.program.now self.now.limit self.now.depth) (scope_of scope.now) e.now (seen state.old)) result state.new }
@@ -421,7 +593,13 @@ impl<'m, F: Fn(Global, &Prepared<'_>, u64, u32, &mut State, &[Consumer<'_>], Tas
 
     /// What a loop goes over that a call by name gives.
     #[cycle(expression)]
-    fn called_iterable(&self, state: &mut State, scope: &Scope<'_>, name: &Spelling, parts: &Items<Expr>) -> Result<Iterable<'m>, Stop>
+    fn called_iterable(
+        &self,
+        state: &mut State,
+        scope: &Scope<'_>,
+        name: &Spelling,
+        parts: &Items<Expr>,
+    ) -> Result<Iterable<'m>, Stop>
         requires { Nests self.now.program.now self.now.limit self.now.depth (F.pre self.now.low) (F.post self.now.low) }
         ensures { TellsBy iterable_of (called_iterable (here self.now.program.now self.now.limit self.now.depth) (scope_of scope.now) name.now parts.now (seen state.old)) result state.new }
     {
@@ -434,7 +612,12 @@ impl<'m, F: Fn(Global, &Prepared<'_>, u64, u32, &mut State, &[Consumer<'_>], Tas
                 let v = self.call(state, known, given)?;
                 Ok(Iterable::Items(v))
             }
-            Callee::Standard(which) => self.standard_iterable(state, scope, which, parts.as_slice()),
+            Callee::Standard(which) => self.standard_iterable(
+                state,
+                scope,
+                which,
+                parts.as_slice(),
+            ),
             Callee::Constructor(c) => {
                 let given = self.exprs(state, scope, parts.as_slice())?;
                 let v = self.construct(state, c, given)?;
@@ -450,7 +633,13 @@ impl<'m, F: Fn(Global, &Prepared<'_>, u64, u32, &mut State, &[Consumer<'_>], Tas
 
     /// What a loop goes over that a builtin gives.
     #[cycle(expression)]
-    fn standard_iterable(&self, state: &mut State, scope: &Scope<'_>, which: Builtin, parts: &[Expr]) -> Result<Iterable<'m>, Stop>
+    fn standard_iterable(
+        &self,
+        state: &mut State,
+        scope: &Scope<'_>,
+        which: Builtin,
+        parts: &[Expr],
+    ) -> Result<Iterable<'m>, Stop>
         requires { Nests self.now.program.now self.now.limit self.now.depth (F.pre self.now.low) (F.post self.now.low) }
         ensures { TellsBy iterable_of (standard_goes (here self.now.program.now self.now.limit self.now.depth) (scope_of scope.now) (builtin_of which) parts.now (seen state.old)) result state.new }
     {
@@ -469,19 +658,42 @@ impl<'m, F: Fn(Global, &Prepared<'_>, u64, u32, &mut State, &[Consumer<'_>], Tas
 
     /// The list of a comprehension.
     #[cycle(expression)]
-    fn comprehension(&self, state: &mut State, scope: &Scope<'_>, e: &Expr, goes_over: Iterable<'m>, names: &LoopNames, item: &Boxed<Expr>, condition: &Option<Boxed<Expr>>) -> Result<Value, Stop>
+    fn comprehension(
+        &self,
+        state: &mut State,
+        scope: &Scope<'_>,
+        e: &Expr,
+        goes_over: Iterable<'m>,
+        names: &LoopNames,
+        item: &Boxed<Expr>,
+        condition: &Option<Boxed<Expr>>,
+    ) -> Result<Value, Stop>
         requires nests { Nests self.now.program.now self.now.limit self.now.depth (F.pre self.now.low) (F.post self.now.low) }
         requires form { IsComprehension e.now names.now condition.now item.now }
         ensures { Tells (comprehended_of (here self.now.program.now self.now.limit self.now.depth) (scope_of scope.now) names.now (iterable_of goes_over.entry) condition.now item.now (seen state.old)) result state.new }
     {
         let all = within(self.alloc, Inner { names }, scope.inner)?;
-        let inner = Scope { inner: &all, locals: scope.locals, fixed: scope.fixed, in_prelude: scope.in_prelude };
+        let inner = Scope {
+            inner: &all,
+            locals: scope.locals,
+            fixed: scope.fixed,
+            in_prelude: scope.in_prelude,
+        };
         self.comprehension_in(state, &inner, e, goes_over, names, item, condition)
     }
 
     /// The same by the text in which its names are its own.
     #[cycle(expression)]
-    fn comprehension_in(&self, state: &mut State, inner: &Scope<'_>, e: &Expr, goes_over: Iterable<'m>, names: &LoopNames, item: &Boxed<Expr>, condition: &Option<Boxed<Expr>>) -> Result<Value, Stop>
+    fn comprehension_in(
+        &self,
+        state: &mut State,
+        inner: &Scope<'_>,
+        e: &Expr,
+        goes_over: Iterable<'m>,
+        names: &LoopNames,
+        item: &Boxed<Expr>,
+        condition: &Option<Boxed<Expr>>,
+    ) -> Result<Value, Stop>
         requires nests { Nests self.now.program.now self.now.limit self.now.depth (F.pre self.now.low) (F.post self.now.low) }
         requires form { IsComprehension e.now names.now condition.now item.now }
         ensures { Tells (comprehended_in (here self.now.program.now self.now.limit self.now.depth) (scope_of inner.now) names.now (iterable_of goes_over.entry) condition.now item.now (seen state.old)) result state.new }
@@ -499,20 +711,59 @@ impl<'m, F: Fn(Global, &Prepared<'_>, u64, u32, &mut State, &[Consumer<'_>], Tas
 
     /// The loop of a comprehension.
     #[cycle(expression)]
-    fn gather(&self, state: &mut State, inner: &Scope<'_>, e: &Expr, goes_over: Iterable<'m>, names: &LoopNames, item: &Boxed<Expr>, condition: &Option<Boxed<Expr>>, list: &Value) -> Result<Flow, Stop>
+    fn gather(
+        &self,
+        state: &mut State,
+        inner: &Scope<'_>,
+        e: &Expr,
+        goes_over: Iterable<'m>,
+        names: &LoopNames,
+        item: &Boxed<Expr>,
+        condition: &Option<Boxed<Expr>>,
+        list: &Value,
+    ) -> Result<Flow, Stop>
         requires nests { Nests self.now.program.now self.now.limit self.now.depth (F.pre self.now.low) (F.post self.now.low) }
         requires form { IsComprehension e.now names.now condition.now item.now }
         ensures { TellsFlow (looped (here self.now.program.now self.now.limit self.now.depth) [] (iterable_of goes_over.entry) (Comprehension (scope_of inner.now) names.now condition.now item.now list.now) (seen state.old)) result state.new }
     {
         match goes_over {
-            Iterable::Generated(called, given) => self.generate(state, &[], Consumer::Comprehension(*inner, names, condition, item, list), called, given),
-            Iterable::Items(container) => self.gather_turns(state, inner, e, Cursor::Item(container, 0), names, item, condition, list),
-            Iterable::Numbers(start, stop, step) => self.gather_numbers(state, inner, e, &start, &stop, &step, names, item, condition, list),
+            Iterable::Generated(called, given) => self.generate(
+                state,
+                &[],
+                Consumer::Comprehension(*inner, names, condition, item, list),
+                called,
+                given,
+            ),
+            Iterable::Items(container) => self.gather_turns(
+                state,
+                inner,
+                e,
+                Cursor::Item(container, 0),
+                names,
+                item,
+                condition,
+                list,
+            ),
+            Iterable::Numbers(start, stop, step) => self.gather_numbers(
+                state, inner, e, &start, &stop, &step, names, item, condition, list,
+            ),
         }
     }
 
     #[cycle(expression)]
-    fn gather_numbers(&self, state: &mut State, inner: &Scope<'_>, e: &Expr, start: &Value, stop: &Value, step: &Value, names: &LoopNames, item: &Boxed<Expr>, condition: &Option<Boxed<Expr>>, list: &Value) -> Result<Flow, Stop>
+    fn gather_numbers(
+        &self,
+        state: &mut State,
+        inner: &Scope<'_>,
+        e: &Expr,
+        start: &Value,
+        stop: &Value,
+        step: &Value,
+        names: &LoopNames,
+        item: &Boxed<Expr>,
+        condition: &Option<Boxed<Expr>>,
+        list: &Value,
+    ) -> Result<Flow, Stop>
         requires nests { Nests self.now.program.now self.now.limit self.now.depth (F.pre self.now.low) (F.post self.now.low) }
         requires form { IsComprehension e.now names.now condition.now item.now }
         ensures { TellsFlow (looped (here self.now.program.now self.now.limit self.now.depth) [] (Numbers start.now stop.now step.now) (Comprehension (scope_of inner.now) names.now condition.now item.now list.now) (seen state.old)) result state.new }
@@ -527,7 +778,17 @@ impl<'m, F: Fn(Global, &Prepared<'_>, u64, u32, &mut State, &[Consumer<'_>], Tas
     }
 
     #[cycle(expression)]
-    fn gather_turns(&self, state: &mut State, inner: &Scope<'_>, e: &Expr, from: Cursor, names: &LoopNames, gathered: &Boxed<Expr>, condition: &Option<Boxed<Expr>>, list: &Value) -> Result<Flow, Stop>
+    fn gather_turns(
+        &self,
+        state: &mut State,
+        inner: &Scope<'_>,
+        e: &Expr,
+        from: Cursor,
+        names: &LoopNames,
+        gathered: &Boxed<Expr>,
+        condition: &Option<Boxed<Expr>>,
+        list: &Value,
+    ) -> Result<Flow, Stop>
         requires nests { Nests self.now.program.now self.now.limit self.now.depth (F.pre self.now.low) (F.post self.now.low) }
         requires form { IsComprehension e.now names.now condition.now gathered.now }
         ensures { TellsFlow (turns_from (here self.now.program.now self.now.limit self.now.depth) (turn_of (here self.now.program.now self.now.limit self.now.depth) [] (Comprehension (scope_of inner.now) names.now condition.now gathered.now list.now)) from (seen state.old)) result state.new }
@@ -552,7 +813,17 @@ impl<'m, F: Fn(Global, &Prepared<'_>, u64, u32, &mut State, &[Consumer<'_>], Tas
 
     /// A turn of a comprehension.
     #[cycle(expression)]
-    fn turn(&self, state: &mut State, inner: &Scope<'_>, e: &Expr, names: &LoopNames, item: &Boxed<Expr>, condition: &Option<Boxed<Expr>>, list: &Value, v: Value) -> Result<Flow, Stop>
+    fn turn(
+        &self,
+        state: &mut State,
+        inner: &Scope<'_>,
+        e: &Expr,
+        names: &LoopNames,
+        item: &Boxed<Expr>,
+        condition: &Option<Boxed<Expr>>,
+        list: &Value,
+        v: Value,
+    ) -> Result<Flow, Stop>
         requires nests { Nests self.now.program.now self.now.limit self.now.depth (F.pre self.now.low) (F.post self.now.low) }
         requires form { IsComprehension e.now names.now condition.now item.now }
         ensures { TellsFlow (turn_of (here self.now.program.now self.now.limit self.now.depth) [] (Comprehension (scope_of inner.now) names.now condition.now item.now list.now) v (seen state.old)) result state.new }
@@ -566,7 +837,16 @@ impl<'m, F: Fn(Global, &Prepared<'_>, u64, u32, &mut State, &[Consumer<'_>], Tas
     }
 
     /// A turn of a comprehension whose items a generator gives.
-    pub(crate) fn gather_one(&self, state: &mut State, inner: &Scope<'_>, names: &LoopNames, item: &Boxed<Expr>, condition: &Option<Boxed<Expr>>, list: &Value, v: Value) -> Result<Flow, Stop>
+    pub(crate) fn gather_one(
+        &self,
+        state: &mut State,
+        inner: &Scope<'_>,
+        names: &LoopNames,
+        item: &Boxed<Expr>,
+        condition: &Option<Boxed<Expr>>,
+        list: &Value,
+        v: Value,
+    ) -> Result<Flow, Stop>
         requires { Nests self.now.program.now self.now.limit self.now.depth (F.pre self.now.low) (F.post self.now.low) }
         ensures { TellsFlow (turn_of (here self.now.program.now self.now.limit self.now.depth) [] (Comprehension (scope_of inner.now) names.now condition.now item.now list.now) v (seen state.old)) result state.new }
     {

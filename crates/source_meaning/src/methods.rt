@@ -60,17 +60,29 @@ fn class_at<'m>(program: &'m Prepared<'m>, class: u32) -> Option<&'m KnownClass<
 }
 
 /// The method of that name among those of a class.
-fn method_of<'m>(alloc: Global, class: &'m KnownClass<'m>, name: &Spelling) -> Result<Called<'m>, Stop>
+fn method_of<'m>(
+    alloc: Global,
+    class: &'m KnownClass<'m>,
+    name: &Spelling,
+) -> Result<Called<'m>, Stop>
     ensures { (s : _) → TellsAtBy known_of (told (function_named name.now (functions_in class.now.methods.items)) s) result s }
 {
     match function_named(name, &class.methods) {
-        Some(known) => Ok(Called { known, in_prelude: false }),
+        Some(known) => Ok(Called {
+            known,
+            in_prelude: false,
+        }),
         None => Err(wrong(alloc)),
     }
 }
 
 /// The method of an instance of that class.
-fn method_in<'m>(alloc: Global, program: &'m Prepared<'m>, class: u32, name: &Spelling) -> Result<Called<'m>, Stop>
+fn method_in<'m>(
+    alloc: Global,
+    program: &'m Prepared<'m>,
+    class: u32,
+    name: &Spelling,
+) -> Result<Called<'m>, Stop>
     ensures { (s : _) → TellsAtBy known_of (found_method (program_of program.now) class name.now s) result s }
 {
     match class_at(program, class) {
@@ -80,16 +92,39 @@ fn method_in<'m>(alloc: Global, program: &'m Prepared<'m>, class: u32, name: &Sp
 }
 
 /// What a loop goes over that a method of a list gives.
-fn list_items<'m>(alloc: Global, state: &mut State, name: &Spelling, at: Ref, given: Values) -> Result<Iterable<'m>, Stop>
+fn list_items<'m>(
+    alloc: Global,
+    state: &mut State,
+    name: &Spelling,
+    at: Ref,
+    given: Values,
+) -> Result<Iterable<'m>, Stop>
     ensures { TellsBy iterable_of (spec.items_of (operations.list_method in_place name.now at given) (seen state.old)) result state.new }
 {
     let items = list_method(alloc, state, name, at, given)?;
     Ok(Iterable::Items(items))
 }
 
-impl<'m, F: Fn(Global, &Prepared<'_>, u64, u32, &mut State, &[Consumer<'_>], Task<'_>) -> Result<Flow, Stop>> Runner<'m, F> {
+impl<
+    'm,
+    F: Fn(
+        Global,
+        &Prepared<'_>,
+        u64,
+        u32,
+        &mut State,
+        &[Consumer<'_>],
+        Task<'_>,
+    ) -> Result<Flow, Stop>,
+> Runner<'m, F> {
     /// `v.name(given)`.
-    pub(crate) fn call_method(&self, state: &mut State, v: Value, name: &Spelling, given: Values) -> Result<Value, Stop>
+    pub(crate) fn call_method(
+        &self,
+        state: &mut State,
+        v: Value,
+        name: &Spelling,
+        given: Values,
+    ) -> Result<Value, Stop>
         requires { Nests self.now.program.now self.now.limit self.now.depth (F.pre self.now.low) (F.post self.now.low) }
         ensures { Tells (spec.call_method (here self.now.program.now self.now.limit self.now.depth) v name.now given (seen state.old)) result state.new }
     {
@@ -102,7 +137,14 @@ impl<'m, F: Fn(Global, &Prepared<'_>, u64, u32, &mut State, &[Consumer<'_>], Tas
     }
 
     /// `v.name(given)` of an instance of that class.
-    fn call_on(&self, state: &mut State, v: Value, class: u32, name: &Spelling, given: Values) -> Result<Value, Stop>
+    fn call_on(
+        &self,
+        state: &mut State,
+        v: Value,
+        class: u32,
+        name: &Spelling,
+        given: Values,
+    ) -> Result<Value, Stop>
         requires { Nests self.now.program.now self.now.limit self.now.depth (F.pre self.now.low) (F.post self.now.low) }
         ensures { Tells (called_on (here self.now.program.now self.now.limit self.now.depth) v class name.now given (seen state.old)) result state.new }
     {
@@ -113,7 +155,13 @@ impl<'m, F: Fn(Global, &Prepared<'_>, u64, u32, &mut State, &[Consumer<'_>], Tas
     }
 
     /// What a loop goes over that `v.name(given)` gives.
-    pub(crate) fn iterable_method(&self, state: &mut State, v: Value, name: &Spelling, given: Values) -> Result<Iterable<'m>, Stop>
+    pub(crate) fn iterable_method(
+        &self,
+        state: &mut State,
+        v: Value,
+        name: &Spelling,
+        given: Values,
+    ) -> Result<Iterable<'m>, Stop>
         requires { Nests self.now.program.now self.now.limit self.now.depth (F.pre self.now.low) (F.post self.now.low) }
         ensures { TellsBy iterable_of (spec.iterable_method (here self.now.program.now self.now.limit self.now.depth) v name.now given (seen state.old)) result state.new }
     {
@@ -126,7 +174,14 @@ impl<'m, F: Fn(Global, &Prepared<'_>, u64, u32, &mut State, &[Consumer<'_>], Tas
     }
 
     /// What a loop goes over that `v.name(given)` of an instance of that class gives.
-    fn goes_over_on(&self, state: &mut State, v: Value, class: u32, name: &Spelling, given: Values) -> Result<Iterable<'m>, Stop>
+    fn goes_over_on(
+        &self,
+        state: &mut State,
+        v: Value,
+        class: u32,
+        name: &Spelling,
+        given: Values,
+    ) -> Result<Iterable<'m>, Stop>
         requires { Nests self.now.program.now self.now.limit self.now.depth (F.pre self.now.low) (F.post self.now.low) }
         ensures { TellsBy iterable_of (goes_over_on (here self.now.program.now self.now.limit self.now.depth) v class name.now given (seen state.old)) result state.new }
     {
@@ -158,18 +213,42 @@ impl<'m, F: Fn(Global, &Prepared<'_>, u64, u32, &mut State, &[Consumer<'_>], Tas
         Ok(list)
     }
 
-    fn gather_into(&self, state: &mut State, list: &Value, goes_over: Iterable<'m>) -> Result<Flow, Stop>
+    fn gather_into(
+        &self,
+        state: &mut State,
+        list: &Value,
+        goes_over: Iterable<'m>,
+    ) -> Result<Flow, Stop>
         requires { Nests self.now.program.now self.now.limit self.now.depth (F.pre self.now.low) (F.post self.now.low) }
         ensures { TellsFlow (looped (here self.now.program.now self.now.limit self.now.depth) [] (iterable_of goes_over.entry) (Gathered list.now) (seen state.old)) result state.new }
     {
         match goes_over {
-            Iterable::Generated(called, given) => self.generate(state, &[], Consumer::Gathered(list), called, given),
-            Iterable::Items(container) => self.append_turns(state, list, Cursor::Item(container, 0)),
-            Iterable::Numbers(start, stop, step) => self.append_numbers(state, list, &start, &stop, &step),
+            Iterable::Generated(called, given) => self.generate(
+                state,
+                &[],
+                Consumer::Gathered(list),
+                called,
+                given,
+            ),
+            Iterable::Items(container) => self.append_turns(
+                state,
+                list,
+                Cursor::Item(container, 0),
+            ),
+            Iterable::Numbers(start, stop, step) => self.append_numbers(
+                state, list, &start, &stop, &step,
+            ),
         }
     }
 
-    fn append_numbers(&self, state: &mut State, list: &Value, start: &Value, stop: &Value, step: &Value) -> Result<Flow, Stop>
+    fn append_numbers(
+        &self,
+        state: &mut State,
+        list: &Value,
+        start: &Value,
+        stop: &Value,
+        step: &Value,
+    ) -> Result<Flow, Stop>
         ensures { TellsFlow (looped (here self.now.program.now self.now.limit self.now.depth) [] (Numbers start.now stop.now step.now) (Gathered list.now) (seen state.old)) result state.new }
     {
         match begun(self.alloc, state, start, stop, step) {

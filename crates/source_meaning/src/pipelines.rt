@@ -15,8 +15,8 @@ ghost use Rattle.source_meaning.specs.Steps.{iterable_of, looped, turns_from};
 ghost use Rattle.source_meaning.specs.Task.{Stages};
 ghost use Rattle.source_meaning.specs.Tasks.{Nests, here, consumers_of, region_at, region_of, program_of};
 
-use crate::captures::begin_stages;
 use crate::callee::{Builtin, Callee, resolve};
+use crate::captures::begin_stages;
 use crate::cursor::next;
 use crate::flow::{End, Flow, after_loop, ended, goes_on};
 use crate::iterable::{Cursor, Iterable};
@@ -64,16 +64,36 @@ fn unnest(state: &mut State)
     state.nested = state.nested.saturating_sub(1);
 }
 
-impl<'m, F: Fn(Global, &Prepared<'_>, u64, u32, &mut State, &[Consumer<'_>], Task<'_>) -> Result<Flow, Stop>> Runner<'m, F> {
+impl<
+    'm,
+    F: Fn(
+        Global,
+        &Prepared<'_>,
+        u64,
+        u32,
+        &mut State,
+        &[Consumer<'_>],
+        Task<'_>,
+    ) -> Result<Flow, Stop>,
+> Runner<'m, F> {
     /// A pipeline statement.
-    pub(crate) fn pipeline(&self, state: &mut State, consumers: &[Consumer<'_>], scope: &Scope<'_>, head: &Expr, stages: &Items<Stage>) -> Result<Flow, Stop>
+    pub(crate) fn pipeline(
+        &self,
+        state: &mut State,
+        consumers: &[Consumer<'_>],
+        scope: &Scope<'_>,
+        head: &Expr,
+        stages: &Items<Stage>,
+    ) -> Result<Flow, Stop>
         requires { Nests self.now.program.now self.now.limit self.now.depth (F.pre self.now.low) (F.post self.now.low) }
         ensures { TellsFlow (spec.pipeline (here self.now.program.now self.now.limit self.now.depth) (consumers_of consumers.now) (scope_of scope.now) head.now stages.now (seen state.old)) result state.new }
     {
         match parallel_place(stages.as_slice(), 0) {
             Some(place) => {
                 match begin_stages(self.alloc, state, self.program, scope, stages, place) {
-                    Ok(region) => self.pipeline_inside(state, consumers, scope, head, stages, &region),
+                    Ok(region) => self.pipeline_inside(
+                        state, consumers, scope, head, stages, &region,
+                    ),
                     Err(why) => Err(why),
                 }
             }
@@ -82,7 +102,15 @@ impl<'m, F: Fn(Global, &Prepared<'_>, u64, u32, &mut State, &[Consumer<'_>], Tas
     }
 
     /// A pipeline in a region that begins.
-    fn pipeline_inside(&self, state: &mut State, consumers: &[Consumer<'_>], scope: &Scope<'_>, head: &Expr, stages: &Items<Stage>, region: &Region) -> Result<Flow, Stop>
+    fn pipeline_inside(
+        &self,
+        state: &mut State,
+        consumers: &[Consumer<'_>],
+        scope: &Scope<'_>,
+        head: &Expr,
+        stages: &Items<Stage>,
+        region: &Region,
+    ) -> Result<Flow, Stop>
         requires { Nests self.now.program.now self.now.limit self.now.depth (F.pre self.now.low) (F.post self.now.low) }
         ensures { TellsFlow (headed_inside (here self.now.program.now self.now.limit self.now.depth) (consumers_of consumers.now) (scope_of scope.now) head.now stages.now (region_of region.now) (seen state.old)) result state.new }
     {
@@ -93,7 +121,15 @@ impl<'m, F: Fn(Global, &Prepared<'_>, u64, u32, &mut State, &[Consumer<'_>], Tas
     }
 
     /// The head of a pipeline with its stages.
-    fn from_head(&self, state: &mut State, consumers: &[Consumer<'_>], scope: &Scope<'_>, head: &Expr, stages: &Items<Stage>, region: Option<&Region>) -> Result<Flow, Stop>
+    fn from_head(
+        &self,
+        state: &mut State,
+        consumers: &[Consumer<'_>],
+        scope: &Scope<'_>,
+        head: &Expr,
+        stages: &Items<Stage>,
+        region: Option<&Region>,
+    ) -> Result<Flow, Stop>
         requires { Nests self.now.program.now self.now.limit self.now.depth (F.pre self.now.low) (F.post self.now.low) }
         ensures { TellsFlow (spec.from_head (here self.now.program.now self.now.limit self.now.depth) (consumers_of consumers.now) (scope_of scope.now) head.now stages.now (region_at region.entry) (seen state.old)) result state.new }
     {
@@ -104,7 +140,16 @@ impl<'m, F: Fn(Global, &Prepared<'_>, u64, u32, &mut State, &[Consumer<'_>], Tas
     }
 
     /// The head of a pipeline with its stages, of which this is the first.
-    fn from_first(&self, state: &mut State, consumers: &[Consumer<'_>], scope: &Scope<'_>, head: &Expr, first: &Stage, stages: &Items<Stage>, region: Option<&Region>) -> Result<Flow, Stop>
+    fn from_first(
+        &self,
+        state: &mut State,
+        consumers: &[Consumer<'_>],
+        scope: &Scope<'_>,
+        head: &Expr,
+        first: &Stage,
+        stages: &Items<Stage>,
+        region: Option<&Region>,
+    ) -> Result<Flow, Stop>
         requires { Nests self.now.program.now self.now.limit self.now.depth (F.pre self.now.low) (F.post self.now.low) }
         ensures { TellsFlow (spec.first_stage (here self.now.program.now self.now.limit self.now.depth) (consumers_of consumers.now) (scope_of scope.now) head.now first.now.joint first.now.form (region_at region.entry) (drop 1 stages.now) stages.now (seen state.old)) result state.new }
     {
@@ -115,14 +160,26 @@ impl<'m, F: Fn(Global, &Prepared<'_>, u64, u32, &mut State, &[Consumer<'_>], Tas
                     let goes_over = self.iterable(state, scope, head)?;
                     self.head_loop(state, consumers, scope, goes_over, region, stages)
                 }
-                StageForm::Call(_, _, _) => self.from_value(state, consumers, scope, head, stages, region),
-                StageForm::Print(_) => self.from_value(state, consumers, scope, head, stages, region),
+                StageForm::Call(_, _, _) => self.from_value(
+                    state, consumers, scope, head, stages, region,
+                ),
+                StageForm::Print(_) => self.from_value(
+                    state, consumers, scope, head, stages, region,
+                ),
             },
         }
     }
 
     /// The value of the head of a pipeline, on which its stages are.
-    fn from_value(&self, state: &mut State, consumers: &[Consumer<'_>], scope: &Scope<'_>, head: &Expr, stages: &Items<Stage>, region: Option<&Region>) -> Result<Flow, Stop>
+    fn from_value(
+        &self,
+        state: &mut State,
+        consumers: &[Consumer<'_>],
+        scope: &Scope<'_>,
+        head: &Expr,
+        stages: &Items<Stage>,
+        region: Option<&Region>,
+    ) -> Result<Flow, Stop>
         requires { Nests self.now.program.now self.now.limit self.now.depth (F.pre self.now.low) (F.post self.now.low) }
         ensures { TellsFlow (headed_by (here self.now.program.now self.now.limit self.now.depth) (consumers_of consumers.now) (scope_of scope.now) head.now (region_at region.entry) stages.now (seen state.old)) result state.new }
     {
@@ -131,7 +188,15 @@ impl<'m, F: Fn(Global, &Prepared<'_>, u64, u32, &mut State, &[Consumer<'_>], Tas
     }
 
     /// A loop over the head, with the stages after the first that take its items.
-    fn head_loop(&self, state: &mut State, consumers: &[Consumer<'_>], scope: &Scope<'_>, goes_over: Iterable<'m>, region: Option<&Region>, stages: &Items<Stage>) -> Result<Flow, Stop>
+    fn head_loop(
+        &self,
+        state: &mut State,
+        consumers: &[Consumer<'_>],
+        scope: &Scope<'_>,
+        goes_over: Iterable<'m>,
+        region: Option<&Region>,
+        stages: &Items<Stage>,
+    ) -> Result<Flow, Stop>
         requires { Nests self.now.program.now self.now.limit self.now.depth (F.pre self.now.low) (F.post self.now.low) }
         ensures { TellsFlow (stage_loop (here self.now.program.now self.now.limit self.now.depth) (consumers_of consumers.now) (scope_of scope.now) (iterable_of goes_over.entry) (region_at region.entry) (drop 1 stages.now) (seen state.old)) result state.new }
     {
@@ -141,7 +206,16 @@ impl<'m, F: Fn(Global, &Prepared<'_>, u64, u32, &mut State, &[Consumer<'_>], Tas
 
     /// The stages from a place on, on a value.
     #[cycle(pipeline)]
-    pub(crate) fn through(&self, state: &mut State, consumers: &[Consumer<'_>], scope: &Scope<'_>, region: Option<&Region>, stages: &Items<Stage>, place: usize, v: Value) -> Result<Flow, Stop>
+    pub(crate) fn through(
+        &self,
+        state: &mut State,
+        consumers: &[Consumer<'_>],
+        scope: &Scope<'_>,
+        region: Option<&Region>,
+        stages: &Items<Stage>,
+        place: usize,
+        v: Value,
+    ) -> Result<Flow, Stop>
         requires { Nests self.now.program.now self.now.limit self.now.depth (F.pre self.now.low) (F.post self.now.low) }
         ensures { TellsFlow (spec.through (here self.now.program.now self.now.limit self.now.depth) (consumers_of consumers.now) (scope_of scope.now) (region_at region.entry) (drop place stages.now) v (seen state.old)) result state.new }
     {
@@ -157,7 +231,16 @@ impl<'m, F: Fn(Global, &Prepared<'_>, u64, u32, &mut State, &[Consumer<'_>], Tas
                     return self.joined(state, consumers, scope, region, stage, stages, at, passed);
                 }
                 Joint::InTurn => {
-                    match self.pass(state, consumers, scope, &stage.form, region, stages, at, passed) {
+                    match self.pass(
+                        state,
+                        consumers,
+                        scope,
+                        &stage.form,
+                        region,
+                        stages,
+                        at,
+                        passed,
+                    ) {
                         Ok(came) => match came {
                             Passed::On(v) => passed = v,
                             Passed::Left(flow) => return Ok(flow),
@@ -172,7 +255,17 @@ impl<'m, F: Fn(Global, &Prepared<'_>, u64, u32, &mut State, &[Consumer<'_>], Tas
 
     /// A value that reaches a stage of a region, with the stages from a place on after it.
     #[cycle(pipeline)]
-    fn joined(&self, state: &mut State, consumers: &[Consumer<'_>], scope: &Scope<'_>, region: Option<&Region>, stage: &Stage, stages: &Items<Stage>, from: usize, v: Value) -> Result<Flow, Stop>
+    fn joined(
+        &self,
+        state: &mut State,
+        consumers: &[Consumer<'_>],
+        scope: &Scope<'_>,
+        region: Option<&Region>,
+        stage: &Stage,
+        stages: &Items<Stage>,
+        from: usize,
+        v: Value,
+    ) -> Result<Flow, Stop>
         requires { Nests self.now.program.now self.now.limit self.now.depth (F.pre self.now.low) (F.post self.now.low) }
         ensures { TellsFlow (reached_stage (here self.now.program.now self.now.limit self.now.depth) (consumers_of consumers.now) (scope_of scope.now) stage.now.form (region_at region.entry) (drop from stages.now) v (seen state.old)) result state.new }
     {
@@ -185,7 +278,17 @@ impl<'m, F: Fn(Global, &Prepared<'_>, u64, u32, &mut State, &[Consumer<'_>], Tas
 
     /// The iteration of a value that reaches a stage of a region, with the stages from a place on after it.
     #[cycle(pipeline)]
-    fn parallel_stage(&self, state: &mut State, consumers: &[Consumer<'_>], scope: &Scope<'_>, region: &Region, stage: &Stage, stages: &Items<Stage>, from: usize, v: Value) -> Result<Flow, Stop>
+    fn parallel_stage(
+        &self,
+        state: &mut State,
+        consumers: &[Consumer<'_>],
+        scope: &Scope<'_>,
+        region: &Region,
+        stage: &Stage,
+        stages: &Items<Stage>,
+        from: usize,
+        v: Value,
+    ) -> Result<Flow, Stop>
         requires { Nests self.now.program.now self.now.limit self.now.depth (F.pre self.now.low) (F.post self.now.low) }
         ensures { TellsFlow (staged_apart (here self.now.program.now self.now.limit self.now.depth) (consumers_of consumers.now) (scope_of scope.now) (region_of region.now) stage.now (drop from stages.now) v (seen state.old)) result state.new }
     {
@@ -198,14 +301,25 @@ impl<'m, F: Fn(Global, &Prepared<'_>, u64, u32, &mut State, &[Consumer<'_>], Tas
 
     /// What a stage does with a value, and the stages from a place on, among which a region may begin.
     #[cycle(pipeline)]
-    fn perform_ahead(&self, state: &mut State, consumers: &[Consumer<'_>], scope: &Scope<'_>, form: &StageForm, stages: &Items<Stage>, from: usize, v: Value) -> Result<Flow, Stop>
+    fn perform_ahead(
+        &self,
+        state: &mut State,
+        consumers: &[Consumer<'_>],
+        scope: &Scope<'_>,
+        form: &StageForm,
+        stages: &Items<Stage>,
+        from: usize,
+        v: Value,
+    ) -> Result<Flow, Stop>
         requires { Nests self.now.program.now self.now.limit self.now.depth (F.pre self.now.low) (F.post self.now.low) }
         ensures { TellsFlow (staged_ahead (here self.now.program.now self.now.limit self.now.depth) (consumers_of consumers.now) (scope_of scope.now) form.now (drop from stages.now) v (seen state.old)) result state.new }
     {
         match parallel_place(stages.as_slice(), from) {
             Some(place) => {
                 match begin_stages(self.alloc, state, self.program, scope, stages, place) {
-                    Ok(region) => self.perform_inside(state, consumers, scope, form, &region, stages, from, v),
+                    Ok(region) => self.perform_inside(
+                        state, consumers, scope, form, &region, stages, from, v,
+                    ),
                     Err(why) => Err(why),
                 }
             }
@@ -215,7 +329,17 @@ impl<'m, F: Fn(Global, &Prepared<'_>, u64, u32, &mut State, &[Consumer<'_>], Tas
 
     /// What a stage does with a value, and the stages from a place on, in a region that begins.
     #[cycle(pipeline)]
-    fn perform_inside(&self, state: &mut State, consumers: &[Consumer<'_>], scope: &Scope<'_>, form: &StageForm, region: &Region, stages: &Items<Stage>, from: usize, v: Value) -> Result<Flow, Stop>
+    fn perform_inside(
+        &self,
+        state: &mut State,
+        consumers: &[Consumer<'_>],
+        scope: &Scope<'_>,
+        form: &StageForm,
+        region: &Region,
+        stages: &Items<Stage>,
+        from: usize,
+        v: Value,
+    ) -> Result<Flow, Stop>
         requires { Nests self.now.program.now self.now.limit self.now.depth (F.pre self.now.low) (F.post self.now.low) }
         ensures { TellsFlow (staged_inside (here self.now.program.now self.now.limit self.now.depth) (consumers_of consumers.now) (scope_of scope.now) form.now (region_of region.now) (drop from stages.now) v (seen state.old)) result state.new }
     {
@@ -227,7 +351,17 @@ impl<'m, F: Fn(Global, &Prepared<'_>, u64, u32, &mut State, &[Consumer<'_>], Tas
 
     /// What a stage does with a value, and the stages from a place on with what it passes on.
     #[cycle(pipeline)]
-    fn perform(&self, state: &mut State, consumers: &[Consumer<'_>], scope: &Scope<'_>, form: &StageForm, region: Option<&Region>, stages: &Items<Stage>, from: usize, v: Value) -> Result<Flow, Stop>
+    fn perform(
+        &self,
+        state: &mut State,
+        consumers: &[Consumer<'_>],
+        scope: &Scope<'_>,
+        form: &StageForm,
+        region: Option<&Region>,
+        stages: &Items<Stage>,
+        from: usize,
+        v: Value,
+    ) -> Result<Flow, Stop>
         requires { Nests self.now.program.now self.now.limit self.now.depth (F.pre self.now.low) (F.post self.now.low) }
         ensures { TellsFlow (staged (here self.now.program.now self.now.limit self.now.depth) (consumers_of consumers.now) (scope_of scope.now) form.now (region_at region.entry) (drop from stages.now) v (seen state.old)) result state.new }
     {
@@ -242,12 +376,30 @@ impl<'m, F: Fn(Global, &Prepared<'_>, u64, u32, &mut State, &[Consumer<'_>], Tas
 
     /// What a stage does with a value. A loop is made whole, with the stages from a place on.
     #[cycle(pipeline)]
-    fn pass(&self, state: &mut State, consumers: &[Consumer<'_>], scope: &Scope<'_>, form: &StageForm, region: Option<&Region>, stages: &Items<Stage>, from: usize, v: Value) -> Result<Passed, Stop>
+    fn pass(
+        &self,
+        state: &mut State,
+        consumers: &[Consumer<'_>],
+        scope: &Scope<'_>,
+        form: &StageForm,
+        region: Option<&Region>,
+        stages: &Items<Stage>,
+        from: usize,
+        v: Value,
+    ) -> Result<Passed, Stop>
         requires { Nests self.now.program.now self.now.limit self.now.depth (F.pre self.now.low) (F.post self.now.low) }
         ensures { TellsBy passed_of (passed (here self.now.program.now self.now.limit self.now.depth) (consumers_of consumers.now) (scope_of scope.now) form.now (region_at region.entry) (drop from stages.now) v (seen state.old)) result state.new }
     {
         match form {
-            StageForm::Iter => self.stage_loop(state, consumers, scope, Iterable::Items(v), region, stages, from),
+            StageForm::Iter => self.stage_loop(
+                state,
+                consumers,
+                scope,
+                Iterable::Items(v),
+                region,
+                stages,
+                from,
+            ),
             StageForm::Call(name, before, behind) => {
                 let given = self.given_to(state, scope, before.as_slice(), v, behind.as_slice())?;
                 self.call_stage(state, consumers, scope, name, given, region, stages, from)
@@ -257,7 +409,14 @@ impl<'m, F: Fn(Global, &Prepared<'_>, u64, u32, &mut State, &[Consumer<'_>], Tas
     }
 
     /// The arguments of a stage, with the piped value among them.
-    fn given_to(&self, state: &mut State, scope: &Scope<'_>, before: &[Expr], v: Value, behind: &[Expr]) -> Result<Values, Stop>
+    fn given_to(
+        &self,
+        state: &mut State,
+        scope: &Scope<'_>,
+        before: &[Expr],
+        v: Value,
+        behind: &[Expr],
+    ) -> Result<Values, Stop>
         requires { Nests self.now.program.now self.now.limit self.now.depth (F.pre self.now.low) (F.post self.now.low) }
         ensures { Tells (given_to (here self.now.program.now self.now.limit self.now.depth) [] (scope_of scope.now) before.now v behind.now (seen state.old)) result state.new }
     {
@@ -268,7 +427,13 @@ impl<'m, F: Fn(Global, &Prepared<'_>, u64, u32, &mut State, &[Consumer<'_>], Tas
         Ok(given)
     }
 
-    fn print_stage(&self, state: &mut State, scope: &Scope<'_>, printed: &Printed, v: Value) -> Result<Passed, Stop>
+    fn print_stage(
+        &self,
+        state: &mut State,
+        scope: &Scope<'_>,
+        printed: &Printed,
+        v: Value,
+    ) -> Result<Passed, Stop>
         requires { Nests self.now.program.now self.now.limit self.now.depth (F.pre self.now.low) (F.post self.now.low) }
         ensures { TellsBy passed_of (printed_stage (here self.now.program.now self.now.limit self.now.depth) [] (scope_of scope.now) printed.now v (seen state.old)) result state.new }
     {
@@ -280,14 +445,32 @@ impl<'m, F: Fn(Global, &Prepared<'_>, u64, u32, &mut State, &[Consumer<'_>], Tas
 
     /// A stage by name on its arguments. A loop is made whole, with the stages from a place on.
     #[cycle(pipeline)]
-    fn call_stage(&self, state: &mut State, consumers: &[Consumer<'_>], scope: &Scope<'_>, name: &Spelling, given: Values, region: Option<&Region>, stages: &Items<Stage>, from: usize) -> Result<Passed, Stop>
+    fn call_stage(
+        &self,
+        state: &mut State,
+        consumers: &[Consumer<'_>],
+        scope: &Scope<'_>,
+        name: &Spelling,
+        given: Values,
+        region: Option<&Region>,
+        stages: &Items<Stage>,
+        from: usize,
+    ) -> Result<Passed, Stop>
         requires { Nests self.now.program.now self.now.limit self.now.depth (F.pre self.now.low) (F.post self.now.low) }
         ensures { TellsBy passed_of (called_stage (here self.now.program.now self.now.limit self.now.depth) (consumers_of consumers.now) (scope_of scope.now) (callee (program_of self.now.program.now) (scope_of scope.now) name.now) name.now given (region_at region.entry) (drop from stages.now) (seen state.old)) result state.new }
     {
         match resolve(self.program, scope, name) {
             Callee::Defined(called) => {
                 if called.known.yields {
-                    return self.stage_loop(state, consumers, scope, Iterable::Generated(called, given), region, stages, from);
+                    return self.stage_loop(
+                        state,
+                        consumers,
+                        scope,
+                        Iterable::Generated(called, given),
+                        region,
+                        stages,
+                        from,
+                    );
                 }
                 let v = self.call(state, called, given)?;
                 Ok(Passed::On(v))
@@ -333,7 +516,16 @@ impl<'m, F: Fn(Global, &Prepared<'_>, u64, u32, &mut State, &[Consumer<'_>], Tas
 
     /// A loop over something, with the stages from a place on that take its items.
     #[cycle(pipeline)]
-    fn stage_loop(&self, state: &mut State, consumers: &[Consumer<'_>], scope: &Scope<'_>, goes_over: Iterable<'m>, region: Option<&Region>, stages: &Items<Stage>, from: usize) -> Result<Passed, Stop>
+    fn stage_loop(
+        &self,
+        state: &mut State,
+        consumers: &[Consumer<'_>],
+        scope: &Scope<'_>,
+        goes_over: Iterable<'m>,
+        region: Option<&Region>,
+        stages: &Items<Stage>,
+        from: usize,
+    ) -> Result<Passed, Stop>
         requires { Nests self.now.program.now self.now.limit self.now.depth (F.pre self.now.low) (F.post self.now.low) }
         ensures { TellsBy passed_of (whole_loop (here self.now.program.now self.now.limit self.now.depth) (consumers_of consumers.now) (scope_of scope.now) (iterable_of goes_over.entry) (region_at region.entry) (drop from stages.now) (seen state.old)) result state.new }
     {
@@ -342,12 +534,27 @@ impl<'m, F: Fn(Global, &Prepared<'_>, u64, u32, &mut State, &[Consumer<'_>], Tas
     }
 
     #[cycle(pipeline)]
-    fn looped_stages(&self, state: &mut State, consumers: &[Consumer<'_>], scope: &Scope<'_>, goes_over: Iterable<'m>, region: Option<&Region>, stages: &Items<Stage>, from: usize) -> Result<Flow, Stop>
+    fn looped_stages(
+        &self,
+        state: &mut State,
+        consumers: &[Consumer<'_>],
+        scope: &Scope<'_>,
+        goes_over: Iterable<'m>,
+        region: Option<&Region>,
+        stages: &Items<Stage>,
+        from: usize,
+    ) -> Result<Flow, Stop>
         requires { Nests self.now.program.now self.now.limit self.now.depth (F.pre self.now.low) (F.post self.now.low) }
         ensures { TellsFlow (looped (here self.now.program.now self.now.limit self.now.depth) (consumers_of consumers.now) (iterable_of goes_over.entry) (Stages (scope_of scope.now) (region_at region.entry) (drop from stages.now)) (seen state.old)) result state.new }
     {
         let mut cursor = Cursor::Ended;
-        match self.enter_loop(state, consumers, Consumer::Stages(*scope, region, stages, from), goes_over, &mut cursor) {
+        match self.enter_loop(
+            state,
+            consumers,
+            Consumer::Stages(*scope, region, stages, from),
+            goes_over,
+            &mut cursor,
+        ) {
             Ok(entered) => match entered {
                 Some(flow) => Ok(flow),
                 None => self.turns_within(state, consumers, scope, cursor, region, stages, from),
@@ -358,7 +565,16 @@ impl<'m, F: Fn(Global, &Prepared<'_>, u64, u32, &mut State, &[Consumer<'_>], Tas
 
     /// The turns of a loop in place, inside of those that run.
     #[cycle(pipeline)]
-    fn turns_within(&self, state: &mut State, consumers: &[Consumer<'_>], scope: &Scope<'_>, begins: Cursor, region: Option<&Region>, stages: &Items<Stage>, from: usize) -> Result<Flow, Stop>
+    fn turns_within(
+        &self,
+        state: &mut State,
+        consumers: &[Consumer<'_>],
+        scope: &Scope<'_>,
+        begins: Cursor,
+        region: Option<&Region>,
+        stages: &Items<Stage>,
+        from: usize,
+    ) -> Result<Flow, Stop>
         requires { Nests self.now.program.now self.now.limit self.now.depth (F.pre self.now.low) (F.post self.now.low) }
         ensures { TellsFlow (turns_from (here self.now.program.now self.now.limit self.now.depth) (turn_of (here self.now.program.now self.now.limit self.now.depth) (consumers_of consumers.now) (Stages (scope_of scope.now) (region_at region.entry) (drop from stages.now))) begins (seen state.old)) result state.new }
     {
@@ -370,7 +586,16 @@ impl<'m, F: Fn(Global, &Prepared<'_>, u64, u32, &mut State, &[Consumer<'_>], Tas
 
     /// The turns of a loop in place.
     #[cycle(pipeline)]
-    fn turns_through(&self, state: &mut State, consumers: &[Consumer<'_>], scope: &Scope<'_>, begins: Cursor, region: Option<&Region>, stages: &Items<Stage>, from: usize) -> Result<Flow, Stop>
+    fn turns_through(
+        &self,
+        state: &mut State,
+        consumers: &[Consumer<'_>],
+        scope: &Scope<'_>,
+        begins: Cursor,
+        region: Option<&Region>,
+        stages: &Items<Stage>,
+        from: usize,
+    ) -> Result<Flow, Stop>
         requires { Nests self.now.program.now self.now.limit self.now.depth (F.pre self.now.low) (F.post self.now.low) }
         ensures { TellsFlow (turns_from (here self.now.program.now self.now.limit self.now.depth) (turn_of (here self.now.program.now self.now.limit self.now.depth) (consumers_of consumers.now) (Stages (scope_of scope.now) (region_at region.entry) (drop from stages.now))) begins (seen state.old)) result state.new }
     {

@@ -42,9 +42,25 @@ pub struct Plain {
     pub end: PlainEnd,
 }
 
-impl<'m, F: Fn(Global, &Prepared<'_>, u64, u32, &mut State, &[Consumer<'_>], Task<'_>) -> Result<Flow, Stop>> Runner<'m, F> {
+impl<
+    'm,
+    F: Fn(
+        Global,
+        &Prepared<'_>,
+        u64,
+        u32,
+        &mut State,
+        &[Consumer<'_>],
+        Task<'_>,
+    ) -> Result<Flow, Stop>,
+> Runner<'m, F> {
     /// A body that is entered, or a turn.
-    fn task(&self, state: &mut State, consumers: &[Consumer<'_>], task: Task<'_>) -> Result<Flow, Stop>
+    fn task(
+        &self,
+        state: &mut State,
+        consumers: &[Consumer<'_>],
+        task: Task<'_>,
+    ) -> Result<Flow, Stop>
         requires { Nests self.now.program.now self.now.limit self.now.depth (F.pre self.now.low) (F.post self.now.low) }
         ensures { TellsFlow (runs.task (here self.now.program.now self.now.limit self.now.depth) (consumers_of consumers.now) (task_of task.entry) (seen state.old)) result state.new }
     {
@@ -55,21 +71,43 @@ impl<'m, F: Fn(Global, &Prepared<'_>, u64, u32, &mut State, &[Consumer<'_>], Tas
     }
 
     /// What a consumer does with an item.
-    fn consume(&self, state: &mut State, consumers: &[Consumer<'_>], consumer: Consumer<'_>, v: Value) -> Result<Flow, Stop>
+    fn consume(
+        &self,
+        state: &mut State,
+        consumers: &[Consumer<'_>],
+        consumer: Consumer<'_>,
+        v: Value,
+    ) -> Result<Flow, Stop>
         requires { Nests self.now.program.now self.now.limit self.now.depth (F.pre self.now.low) (F.post self.now.low) }
         ensures { TellsFlow (turn_of (here self.now.program.now self.now.limit self.now.depth) (consumers_of consumers.now) (consumer_of consumer.entry) v (seen state.old)) result state.new }
     {
         match consumer {
-            Consumer::Body(scope, names, body) => self.loop_turn(state, consumers, &scope, names, body, v),
-            Consumer::Parallel(region, scope, names, body) => self.parallel_turn(state, consumers, region, &scope, names, body, v),
+            Consumer::Body(scope, names, body) => self.loop_turn(
+                state, consumers, &scope, names, body, v,
+            ),
+            Consumer::Parallel(region, scope, names, body) => self.parallel_turn(
+                state, consumers, region, &scope, names, body, v,
+            ),
             Consumer::Gathered(list) => self.append_to(state, list, v),
-            Consumer::Comprehension(scope, names, condition, item, list) => self.gather_one(state, &scope, names, item, condition, list, v),
-            Consumer::Stages(scope, region, stages, place) => self.through(state, consumers, &scope, region, stages, place, v),
+            Consumer::Comprehension(scope, names, condition, item, list) => self.gather_one(
+                state, &scope, names, item, condition, list, v,
+            ),
+            Consumer::Stages(scope, region, stages, place) => self.through(
+                state, consumers, &scope, region, stages, place, v,
+            ),
         }
     }
 
     /// A turn of a loop over a generator.
-    fn loop_turn(&self, state: &mut State, consumers: &[Consumer<'_>], scope: &Scope<'_>, names: &LoopNames, body: &Items<Stmt>, v: Value) -> Result<Flow, Stop>
+    fn loop_turn(
+        &self,
+        state: &mut State,
+        consumers: &[Consumer<'_>],
+        scope: &Scope<'_>,
+        names: &LoopNames,
+        body: &Items<Stmt>,
+        v: Value,
+    ) -> Result<Flow, Stop>
         requires { Nests self.now.program.now self.now.limit self.now.depth (F.pre self.now.low) (F.post self.now.low) }
         ensures { TellsFlow (turn_of (here self.now.program.now self.now.limit self.now.depth) (consumers_of consumers.now) (Body (scope_of scope.now) names.now body.now) v (seen state.old)) result state.new }
     {
@@ -106,13 +144,27 @@ impl<'m, F: Fn(Global, &Prepared<'_>, u64, u32, &mut State, &[Consumer<'_>], Tas
 }
 
 /// Runs a task in which at most `depth` tasks are run one inside the other.
-fn run_to(alloc: Global, program: &Prepared<'_>, limit: u64, depth: u32, state: &mut State, consumers: &[Consumer<'_>], task: Task<'_>) -> Result<Flow, Stop>
+fn run_to(
+    alloc: Global,
+    program: &Prepared<'_>,
+    limit: u64,
+    depth: u32,
+    state: &mut State,
+    consumers: &[Consumer<'_>],
+    task: Task<'_>,
+) -> Result<Flow, Stop>
     ensures { TellsFlow (lower program.now limit depth (consumers_of consumers.now) (task_of task.entry) (seen state.old)) result state.new }
 {
     if depth == 0 {
         return Err(Stop::TooDeep);
     }
-    let runner = Runner { alloc, program: &*program, limit, depth: depth - 1, low: run_to };
+    let runner = Runner {
+        alloc,
+        program: &*program,
+        limit,
+        depth: depth - 1,
+        low: run_to,
+    };
     runner.task(state, consumers, task)
 }
 
@@ -127,7 +179,10 @@ fn new_state(alloc: Global) -> Result<State, Memory>
         waiting: Items::new(alloc),
         used: 0,
         out: Items::new(alloc),
-        store: Store { heap, iterations: Items::new(alloc) },
+        store: Store {
+            heap,
+            iterations: Items::new(alloc),
+        },
         globals: Names::new(alloc),
         reached: 0,
         regions: 0,
@@ -146,14 +201,32 @@ fn fixed_names(alloc: Global, module: &Module) -> Result<Items<Spelling>, Memory
 }
 
 /// Runs the statements of a module.
-fn run_module(alloc: Global, program: &Prepared<'_>, module: &Module, fuel: u64, depth: u32, state: &mut State) -> Result<Flow, Stop>
+fn run_module(
+    alloc: Global,
+    program: &Prepared<'_>,
+    module: &Module,
+    fuel: u64,
+    depth: u32,
+    state: &mut State,
+) -> Result<Flow, Stop>
     requires program { program_of program.now ≡ spec.program_of «module».now }
     requires begins { seen state.old ≡ start }
     ensures { TellsFlow (outcome «module».now fuel depth TooDeep) result state.new }
 {
     let fixed = fixed_names(alloc, module)?;
-    let scope = Scope { inner: &[], locals: &[], fixed: fixed.as_slice(), in_prelude: false };
-    let runner = Runner { alloc, program, limit: fuel, depth, low: run_to };
+    let scope = Scope {
+        inner: &[],
+        locals: &[],
+        fixed: fixed.as_slice(),
+        in_prelude: false,
+    };
+    let runner = Runner {
+        alloc,
+        program,
+        limit: fuel,
+        depth,
+        low: run_to,
+    };
     runner.top(state, &scope, module.items.as_slice())
 }
 
@@ -162,10 +235,22 @@ fn told(flow: Result<Flow, Stop>, out: Bytes) -> Result<Plain, Memory>
     ensures { IfOk result (λ plain. (plain.out ≡ out) × IsEnd flow plain.end) }
 {
     match flow {
-        Ok(_) => Ok(Plain { out, end: PlainEnd::Ended(Ending::Done) }),
-        Err(Stop::Faulted(fault)) => Ok(Plain { out, end: PlainEnd::Ended(Ending::Fault(fault)) }),
-        Err(Stop::OutOfFuel) => Ok(Plain { out, end: PlainEnd::Ended(Ending::OutOfFuel) }),
-        Err(Stop::TooDeep) => Ok(Plain { out, end: PlainEnd::TooDeep }),
+        Ok(_) => Ok(Plain {
+            out,
+            end: PlainEnd::Ended(Ending::Done),
+        }),
+        Err(Stop::Faulted(fault)) => Ok(Plain {
+            out,
+            end: PlainEnd::Ended(Ending::Fault(fault)),
+        }),
+        Err(Stop::OutOfFuel) => Ok(Plain {
+            out,
+            end: PlainEnd::Ended(Ending::OutOfFuel),
+        }),
+        Err(Stop::TooDeep) => Ok(Plain {
+            out,
+            end: PlainEnd::TooDeep,
+        }),
         Err(Stop::Memory) => Err(Memory),
     }
 }

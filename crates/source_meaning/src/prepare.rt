@@ -18,7 +18,12 @@ use sqlite_items::Items;
 use std::alloc::Global;
 
 /// Puts the names at the end that are variables of a function, or those of them that no region in it has as private ones.
-pub(crate) fn push_locals(alloc: Global, f: &Function, all: bool, names: &mut Items<Spelling>) -> Result<(), Memory>
+pub(crate) fn push_locals(
+    alloc: Global,
+    f: &Function,
+    all: bool,
+    names: &mut Items<Spelling>,
+) -> Result<(), Memory>
     ensures { OnOk result (names.new ≡ names.old ++ spec.param_names f.now.params ++ flat_map (assigned_by (kept_if all)) f.now.body) }
 {
     push_params(alloc, f.params.as_slice(), names)?;
@@ -44,7 +49,13 @@ fn know_function<'m>(alloc: Global, function: &'m Function) -> Result<Known<'m>,
     push_locals(alloc, function, false, &mut fixed)?;
     let yields = yields(function.body.as_slice());
     let gives_value = gives_value(function.body.as_slice());
-    Ok(Known { function, locals, fixed, yields, gives_value })
+    Ok(Known {
+        function,
+        locals,
+        fixed,
+        yields,
+        gives_value,
+    })
 }
 
 fn known_methods<'m>(alloc: Global, members: &'m [Member]) -> Result<Vec<Known<'m>>, Memory>
@@ -76,7 +87,11 @@ fn know_class<'m>(alloc: Global, class: &'m Class) -> Result<KnownClass<'m>, Mem
 {
     let methods = known_methods(alloc, class.members.as_slice())?;
     let fields = field_names(alloc, class.members.as_slice())?;
-    Ok(KnownClass { class, methods, fields })
+    Ok(KnownClass {
+        class,
+        methods,
+        fields,
+    })
 }
 
 fn known_functions<'m>(alloc: Global, items: &'m [Item]) -> Result<Vec<Known<'m>>, Memory>
@@ -103,12 +118,19 @@ fn known_classes<'m>(alloc: Global, items: &'m [Item]) -> Result<Vec<KnownClass<
     Ok(classes)
 }
 
-fn push_methods<'m>(class_name: &'m Spelling, members: &'m [Member], callables: &mut Vec<Callable<'m>>) -> Result<(), Memory>
+fn push_methods<'m>(
+    class_name: &'m Spelling,
+    members: &'m [Member],
+    callables: &mut Vec<Callable<'m>>,
+) -> Result<(), Memory>
     ensures { OnOk result (map callable_of callables.new.items ≡ map callable_of callables.old.items ++ map (λ f. record { function = f; class_name = Some class_name.now }) (flat_map spec.method_in members.now)) }
 {
     'members: for member in members {
         if let Member::Method(function) = member {
-            callables.push(Callable { function, class_name: Some(class_name) })?;
+            callables.push(Callable {
+                function,
+                class_name: Some(class_name),
+            })?;
         }
     }
     Ok(())
@@ -119,7 +141,10 @@ fn push_callables<'m>(item: &'m Item, callables: &mut Vec<Callable<'m>>) -> Resu
 {
     match item {
         Item::Function(function) => {
-            callables.push(Callable { function, class_name: None })?;
+            callables.push(Callable {
+                function,
+                class_name: None,
+            })?;
             Ok(())
         }
         Item::Class(c) => push_methods(&c.name.spelling, c.members.as_slice(), callables),
@@ -138,7 +163,12 @@ fn callables_in<'m>(alloc: Global, items: &'m [Item]) -> Result<Vec<Callable<'m>
 }
 
 /// Puts the variables of a module at the end, or those of them that no region in it has as private ones.
-pub(crate) fn push_variables(alloc: Global, items: &[Item], all: bool, names: &mut Items<Spelling>) -> Result<(), Memory>
+pub(crate) fn push_variables(
+    alloc: Global,
+    items: &[Item],
+    all: bool,
+    names: &mut Items<Spelling>,
+) -> Result<(), Memory>
     ensures { OnOk result (names.new ≡ names.old ++ flat_map (assigned_by (kept_if all)) (flat_map spec.statement_in items.now)) }
 {
     'items: for item in items {
@@ -151,7 +181,11 @@ pub(crate) fn push_variables(alloc: Global, items: &[Item], all: bool, names: &m
 
 /// A module with what its run needs to know, after the prelude.
 #[tactic(auto, unfolding(crate::specs::Tasks::program_of))]
-pub(crate) fn prepare<'m>(alloc: Global, source: &'m Module, prelude: &'m Module) -> Result<Prepared<'m>, Memory>
+pub(crate) fn prepare<'m>(
+    alloc: Global,
+    source: &'m Module,
+    prelude: &'m Module,
+) -> Result<Prepared<'m>, Memory>
     requires { prelude.now ≡ trees.prelude }
     ensures { IfOk result (λ p. program_of p ≡ spec.program_of source.now) }
 {
@@ -164,5 +198,11 @@ pub(crate) fn prepare<'m>(alloc: Global, source: &'m Module, prelude: &'m Module
     let mut variables = Items::new(alloc);
     push_variables(alloc, source.items.as_slice(), true, &mut variables)?;
     let prelude = known_functions(alloc, prelude.items.as_slice())?;
-    Ok(Prepared { functions, classes, callables, variables, prelude })
+    Ok(Prepared {
+        functions,
+        classes,
+        callables,
+        variables,
+        prelude,
+    })
 }

@@ -25,7 +25,8 @@ fn is_called_by(callable: &Callable<'_>, note: Note<'_>) -> bool
     match callable.class_name {
         None => calls_name(name, note),
         Some(class) => {
-            calls_method(name, note) || (name.as_slice() == b"__init__".as_slice() && calls_name(class, note))
+            calls_method(name, note)
+                || (name.as_slice() == b"__init__".as_slice() && calls_name(class, note))
         }
     }
 }
@@ -64,7 +65,11 @@ fn is_called(callable: &Callable<'_>, notes: &[Note<'_>]) -> bool
 }
 
 /// Which functions and methods notes call.
-fn called_flags(alloc: Global, callables: &[Callable<'_>], notes: &[Note<'_>]) -> Result<Vec<bool>, Memory>
+fn called_flags(
+    alloc: Global,
+    callables: &[Callable<'_>],
+    notes: &[Note<'_>],
+) -> Result<Vec<bool>, Memory>
     ensures { IfOk result (λ flags. flags.items ≡ flags_of (noted notes.now) (map callable_of callables.now)) }
 {
     let mut flags = Vec::new(alloc);
@@ -84,7 +89,12 @@ fn is_flagged(flags: &[bool], place: usize) -> bool
     }
 }
 
-fn push_flagged<'m>(callable: &Callable<'m>, flags: &[bool], place: usize, ones: &mut Vec<Callable<'m>>) -> Result<(), Memory>
+fn push_flagged<'m>(
+    callable: &Callable<'m>,
+    flags: &[bool],
+    place: usize,
+    ones: &mut Vec<Callable<'m>>,
+) -> Result<(), Memory>
     ensures { OnOk result (map callable_of ones.new.items ≡ map callable_of ones.old.items ++ one_if (flagged flags.now place) (callable_of callable.now)) }
 {
     if is_flagged(flags, place) {
@@ -94,7 +104,11 @@ fn push_flagged<'m>(callable: &Callable<'m>, flags: &[bool], place: usize, ones:
 }
 
 /// The flagged functions and methods.
-pub(crate) fn flagged_ones<'m>(alloc: Global, callables: &[Callable<'m>], flags: &[bool]) -> Result<Vec<Callable<'m>>, Memory>
+pub(crate) fn flagged_ones<'m>(
+    alloc: Global,
+    callables: &[Callable<'m>],
+    flags: &[bool],
+) -> Result<Vec<Callable<'m>>, Memory>
     ensures { IfOk result (λ ones. map callable_of ones.items ≡ picked (map callable_of callables.now) flags.now) }
 {
     let mut ones = Vec::new(alloc);
@@ -107,7 +121,11 @@ pub(crate) fn flagged_ones<'m>(alloc: Global, callables: &[Callable<'m>], flags:
 }
 
 /// Puts the notes of functions and methods at the end.
-fn push_reached<'m>(alloc: Global, ones: &[Callable<'m>], notes: &mut Vec<Note<'m>>) -> Result<(), Memory>
+fn push_reached<'m>(
+    alloc: Global,
+    ones: &[Callable<'m>],
+    notes: &mut Vec<Note<'m>>,
+) -> Result<(), Memory>
     ensures { OnOk result (noted notes.new.items ≡ noted notes.old.items ++ spec.notes_of_reached (map callable_of ones.now)) }
 {
     'ones: for callable in ones {
@@ -117,7 +135,11 @@ fn push_reached<'m>(alloc: Global, ones: &[Callable<'m>], notes: &mut Vec<Note<'
 }
 
 /// Puts the notes of functions and methods at the end, but for their own names.
-pub(crate) fn push_outside<'m>(alloc: Global, ones: &[Callable<'m>], notes: &mut Vec<Note<'m>>) -> Result<(), Memory>
+pub(crate) fn push_outside<'m>(
+    alloc: Global,
+    ones: &[Callable<'m>],
+    notes: &mut Vec<Note<'m>>,
+) -> Result<(), Memory>
     ensures { OnOk result (noted notes.new.items ≡ noted notes.old.items ++ flat_map spec.notes_outside (map callable_of ones.now)) }
 {
     'ones: for callable in ones {
@@ -126,7 +148,11 @@ pub(crate) fn push_outside<'m>(alloc: Global, ones: &[Callable<'m>], notes: &mut
     Ok(())
 }
 
-fn push_outside_of<'m>(alloc: Global, callable: &Callable<'m>, notes: &mut Vec<Note<'m>>) -> Result<(), Memory>
+fn push_outside_of<'m>(
+    alloc: Global,
+    callable: &Callable<'m>,
+    notes: &mut Vec<Note<'m>>,
+) -> Result<(), Memory>
     ensures { OnOk result (noted notes.new.items ≡ noted notes.old.items ++ spec.notes_outside (callable_of callable.now)) }
 {
     let mut inner = Vec::new(alloc);
@@ -137,7 +163,12 @@ fn push_outside_of<'m>(alloc: Global, callable: &Callable<'m>, notes: &mut Vec<N
 }
 
 /// The next round of the reach: what notes call, and what is called there.
-fn next_flags<'m>(alloc: Global, callables: &[Callable<'m>], notes: &[Note<'m>], flags: &[bool]) -> Result<Vec<bool>, Memory>
+fn next_flags<'m>(
+    alloc: Global,
+    callables: &[Callable<'m>],
+    notes: &[Note<'m>],
+    flags: &[bool],
+) -> Result<Vec<bool>, Memory>
     ensures { IfOk result (λ next. next.items ≡ flags_of (noted notes.now ++ spec.notes_of_reached (picked (map callable_of callables.now) flags.now)) (map callable_of callables.now)) }
 {
     let mut all = Vec::from_slice(alloc, notes)?;
@@ -148,7 +179,11 @@ fn next_flags<'m>(alloc: Global, callables: &[Callable<'m>], notes: &[Note<'m>],
 
 /// Which functions and methods notes call, directly or through others. Once a round adds none, no later one does.
 #[tactic(auto, unfolding(crate::specs::Reaching::flags_within))]
-pub(crate) fn reached_flags<'m>(alloc: Global, callables: &[Callable<'m>], notes: &[Note<'m>]) -> Result<Vec<bool>, Memory>
+pub(crate) fn reached_flags<'m>(
+    alloc: Global,
+    callables: &[Callable<'m>],
+    notes: &[Note<'m>],
+) -> Result<Vec<bool>, Memory>
     ensures { IfOk result (λ flags. flags.items ≡ flags_within (map callable_of callables.now) (noted notes.now) (length callables.now)) }
 {
     let mut flags = called_flags(alloc, callables, notes)?;

@@ -45,28 +45,66 @@ fn is_range(callee: Callee<'_>) -> bool
     }
 }
 
-impl<'m, F: Fn(Global, &Prepared<'_>, u64, u32, &mut State, &[Consumer<'_>], Task<'_>) -> Result<Flow, Stop>> Runner<'m, F> {
+impl<
+    'm,
+    F: Fn(
+        Global,
+        &Prepared<'_>,
+        u64,
+        u32,
+        &mut State,
+        &[Consumer<'_>],
+        Task<'_>,
+    ) -> Result<Flow, Stop>,
+> Runner<'m, F> {
     /// A `@par` loop.
     #[cycle(statement)]
-    pub(crate) fn parallel_loop(&self, state: &mut State, consumers: &[Consumer<'_>], scope: &Scope<'_>, l: &For) -> Result<Flow, Stop>
+    pub(crate) fn parallel_loop(
+        &self,
+        state: &mut State,
+        consumers: &[Consumer<'_>],
+        scope: &Scope<'_>,
+        l: &For,
+    ) -> Result<Flow, Stop>
         requires { Nests self.now.program.now self.now.limit self.now.depth (F.pre self.now.low) (F.post self.now.low) }
         ensures { TellsFlow (parallel_of (here self.now.program.now self.now.limit self.now.depth) (consumers_of consumers.now) (scope_of scope.now) l.now (seen state.old)) result state.new }
     {
         let goes_over = self.iterable(state, scope, &l.iterable)?;
         let over_range = goes_over_range(self.program, scope, &l.iterable);
-        let region = begin_loop(self.alloc, state, self.program, scope, &l.names, over_range, &l.body)?;
+        let region = begin_loop(
+            self.alloc,
+            state,
+            self.program,
+            scope,
+            &l.names,
+            over_range,
+            &l.body,
+        )?;
         let flow = self.region_of_loop(state, consumers, scope, &region, l, goes_over)?;
         Ok(after_loop(flow))
     }
 
     /// The region of a `@par` loop that has begun.
     #[cycle(statement)]
-    fn region_of_loop(&self, state: &mut State, consumers: &[Consumer<'_>], scope: &Scope<'_>, region: &Region, l: &For, goes_over: Iterable<'m>) -> Result<Flow, Stop>
+    fn region_of_loop(
+        &self,
+        state: &mut State,
+        consumers: &[Consumer<'_>],
+        scope: &Scope<'_>,
+        region: &Region,
+        l: &For,
+        goes_over: Iterable<'m>,
+    ) -> Result<Flow, Stop>
         requires { Nests self.now.program.now self.now.limit self.now.depth (F.pre self.now.low) (F.post self.now.low) }
         ensures { TellsFlow (parallel_by (here self.now.program.now self.now.limit self.now.depth) (consumers_of consumers.now) (scope_of scope.now) l.now.names l.now.body (iterable_of goes_over.entry) (region_of region.now) (seen state.old)) result state.new }
     {
         let fixed = fixed_of(self.alloc, scope, &l.names, l.body.as_slice())?;
-        let inner = Scope { inner: scope.inner, locals: scope.locals, fixed: fixed.as_slice(), in_prelude: scope.in_prelude };
+        let inner = Scope {
+            inner: scope.inner,
+            locals: scope.locals,
+            fixed: fixed.as_slice(),
+            in_prelude: scope.in_prelude,
+        };
         let begun = start_region(state);
         let flow = self.loop_body(state, consumers, &inner, Some(region), l, goes_over)?;
         finish_region(state, begun, &flow)?;
@@ -75,7 +113,16 @@ impl<'m, F: Fn(Global, &Prepared<'_>, u64, u32, &mut State, &[Consumer<'_>], Tas
 
     /// A turn of a parallel loop.
     #[cycle(statement)]
-    pub(crate) fn parallel_turn(&self, state: &mut State, consumers: &[Consumer<'_>], region: &Region, scope: &Scope<'_>, names: &LoopNames, body: &Items<Stmt>, v: Value) -> Result<Flow, Stop>
+    pub(crate) fn parallel_turn(
+        &self,
+        state: &mut State,
+        consumers: &[Consumer<'_>],
+        region: &Region,
+        scope: &Scope<'_>,
+        names: &LoopNames,
+        body: &Items<Stmt>,
+        v: Value,
+    ) -> Result<Flow, Stop>
         requires { Nests self.now.program.now self.now.limit self.now.depth (F.pre self.now.low) (F.post self.now.low) }
         ensures { TellsFlow (turn_of (here self.now.program.now self.now.limit self.now.depth) (consumers_of consumers.now) (Parallel (region_of region.now) (scope_of scope.now) names.now body.now) v (seen state.old)) result state.new }
     {

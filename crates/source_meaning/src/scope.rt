@@ -61,7 +61,11 @@ impl<'a> Scope<'a> {
 }
 
 /// The names of comprehensions, with those of one more inside.
-pub(crate) fn within<'a>(alloc: Global, top: Inner<'a>, inner: &[Inner<'a>]) -> Result<Vec<Inner<'a>>, Memory>
+pub(crate) fn within<'a>(
+    alloc: Global,
+    top: Inner<'a>,
+    inner: &[Inner<'a>],
+) -> Result<Vec<Inner<'a>>, Memory>
     ensures { IfOk result (λ all. all.items ≡ top.entry ∷ inner.now) }
 {
     let mut all = Vec::new(alloc);

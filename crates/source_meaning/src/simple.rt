@@ -47,8 +47,25 @@ pub(crate) fn fault_named(name: &Spelling) -> Option<FaultKind>
     }
 }
 
-impl<'m, F: Fn(Global, &Prepared<'_>, u64, u32, &mut State, &[Consumer<'_>], Task<'_>) -> Result<Flow, Stop>> Runner<'m, F> {
-    fn assign(&self, state: &mut State, scope: &Scope<'_>, written: &Target, v: Value) -> Result<(), Stop>
+impl<
+    'm,
+    F: Fn(
+        Global,
+        &Prepared<'_>,
+        u64,
+        u32,
+        &mut State,
+        &[Consumer<'_>],
+        Task<'_>,
+    ) -> Result<Flow, Stop>,
+> Runner<'m, F> {
+    fn assign(
+        &self,
+        state: &mut State,
+        scope: &Scope<'_>,
+        written: &Target,
+        v: Value,
+    ) -> Result<(), Stop>
         requires { Nests self.now.program.now self.now.limit self.now.depth (F.pre self.now.low) (F.post self.now.low) }
         ensures { Tells (spec.assign (here self.now.program.now self.now.limit self.now.depth) (scope_of scope.now) written.now v (seen state.old)) result state.new }
     {
@@ -66,7 +83,13 @@ impl<'m, F: Fn(Global, &Prepared<'_>, u64, u32, &mut State, &[Consumer<'_>], Tas
         }
     }
 
-    fn assign_each(&self, state: &mut State, scope: &Scope<'_>, all: &[Target], items: &[Value]) -> Result<(), Stop>
+    fn assign_each(
+        &self,
+        state: &mut State,
+        scope: &Scope<'_>,
+        all: &[Target],
+        items: &[Value],
+    ) -> Result<(), Stop>
         requires { Nests self.now.program.now self.now.limit self.now.depth (F.pre self.now.low) (F.post self.now.low) }
         ensures { Tells (spec.assign_each (here self.now.program.now self.now.limit self.now.depth) (scope_of scope.now) all.now items.now (seen state.old)) result state.new }
     {
@@ -82,7 +105,13 @@ impl<'m, F: Fn(Global, &Prepared<'_>, u64, u32, &mut State, &[Consumer<'_>], Tas
     }
 
     /// Targets take a value.
-    fn assign_all(&self, state: &mut State, scope: &Scope<'_>, written: &Targets, v: Value) -> Result<(), Stop>
+    fn assign_all(
+        &self,
+        state: &mut State,
+        scope: &Scope<'_>,
+        written: &Targets,
+        v: Value,
+    ) -> Result<(), Stop>
         requires { Nests self.now.program.now self.now.limit self.now.depth (F.pre self.now.low) (F.post self.now.low) }
         ensures { Tells (spec.assign_all (here self.now.program.now self.now.limit self.now.depth) (scope_of scope.now) written.now v (seen state.old)) result state.new }
     {
@@ -95,7 +124,14 @@ impl<'m, F: Fn(Global, &Prepared<'_>, u64, u32, &mut State, &[Consumer<'_>], Tas
         }
     }
 
-    fn update_name(&self, state: &mut State, scope: &Scope<'_>, name: &Spelling, by: BinaryOp, e: &Expr) -> Result<(), Stop>
+    fn update_name(
+        &self,
+        state: &mut State,
+        scope: &Scope<'_>,
+        name: &Spelling,
+        by: BinaryOp,
+        e: &Expr,
+    ) -> Result<(), Stop>
         requires { Nests self.now.program.now self.now.limit self.now.depth (F.pre self.now.low) (F.post self.now.low) }
         ensures { Tells (updates.update_name (here self.now.program.now self.now.limit self.now.depth) (scope_of scope.now) name.now by e.now (seen state.old)) result state.new }
     {
@@ -105,7 +141,15 @@ impl<'m, F: Fn(Global, &Prepared<'_>, u64, u32, &mut State, &[Consumer<'_>], Tas
         set_name(self.alloc, state, scope, name, new)
     }
 
-    fn update_place(&self, state: &mut State, scope: &Scope<'_>, container: &Expr, index: &Expr, by: BinaryOp, e: &Expr) -> Result<(), Stop>
+    fn update_place(
+        &self,
+        state: &mut State,
+        scope: &Scope<'_>,
+        container: &Expr,
+        index: &Expr,
+        by: BinaryOp,
+        e: &Expr,
+    ) -> Result<(), Stop>
         requires { Nests self.now.program.now self.now.limit self.now.depth (F.pre self.now.low) (F.post self.now.low) }
         ensures { Tells (updates.update_place (here self.now.program.now self.now.limit self.now.depth) (scope_of scope.now) container.now index.now by e.now (seen state.old)) result state.new }
     {
@@ -117,7 +161,15 @@ impl<'m, F: Fn(Global, &Prepared<'_>, u64, u32, &mut State, &[Consumer<'_>], Tas
         put(self.alloc, state, &c, &i, new)
     }
 
-    fn update_field(&self, state: &mut State, scope: &Scope<'_>, object: &Expr, name: &Spelling, by: BinaryOp, e: &Expr) -> Result<(), Stop>
+    fn update_field(
+        &self,
+        state: &mut State,
+        scope: &Scope<'_>,
+        object: &Expr,
+        name: &Spelling,
+        by: BinaryOp,
+        e: &Expr,
+    ) -> Result<(), Stop>
         requires { Nests self.now.program.now self.now.limit self.now.depth (F.pre self.now.low) (F.post self.now.low) }
         ensures { Tells (updates.update_field (here self.now.program.now self.now.limit self.now.depth) (scope_of scope.now) object.now name.now by e.now (seen state.old)) result state.new }
     {
@@ -129,19 +181,34 @@ impl<'m, F: Fn(Global, &Prepared<'_>, u64, u32, &mut State, &[Consumer<'_>], Tas
     }
 
     /// What `target op= e` writes.
-    fn update(&self, state: &mut State, scope: &Scope<'_>, written: &Target, by: BinaryOp, e: &Expr) -> Result<(), Stop>
+    fn update(
+        &self,
+        state: &mut State,
+        scope: &Scope<'_>,
+        written: &Target,
+        by: BinaryOp,
+        e: &Expr,
+    ) -> Result<(), Stop>
         requires { Nests self.now.program.now self.now.limit self.now.depth (F.pre self.now.low) (F.post self.now.low) }
         ensures { Tells (spec.update (here self.now.program.now self.now.limit self.now.depth) (scope_of scope.now) written.now by e.now (seen state.old)) result state.new }
     {
         match written {
             Target::Name(_, name) => self.update_name(state, scope, name, by, e),
-            Target::Index(_, container, index) => self.update_place(state, scope, container, index, by, e),
+            Target::Index(_, container, index) => self.update_place(
+                state, scope, container, index, by, e,
+            ),
             Target::Field(_, object, name) => self.update_field(state, scope, object, name, by, e),
         }
     }
 
     /// An annotation, which assigns where it has a value.
-    fn annotated(&self, state: &mut State, scope: &Scope<'_>, name: &Name, e: &Option<Expr>) -> Result<(), Stop>
+    fn annotated(
+        &self,
+        state: &mut State,
+        scope: &Scope<'_>,
+        name: &Name,
+        e: &Option<Expr>,
+    ) -> Result<(), Stop>
         requires { Nests self.now.program.now self.now.limit self.now.depth (F.pre self.now.low) (F.post self.now.low) }
         ensures { Tells (spec.annotated (here self.now.program.now self.now.limit self.now.depth) (scope_of scope.now) name.now e.now (seen state.old)) result state.new }
     {
@@ -169,7 +236,13 @@ impl<'m, F: Fn(Global, &Prepared<'_>, u64, u32, &mut State, &[Consumer<'_>], Tas
     }
 
     /// Ends the run by a fault of that kind.
-    pub(crate) fn raise(&self, state: &mut State, scope: &Scope<'_>, kind: Option<FaultKind>, text: &Option<Expr>) -> Result<Flow, Stop>
+    pub(crate) fn raise(
+        &self,
+        state: &mut State,
+        scope: &Scope<'_>,
+        kind: Option<FaultKind>,
+        text: &Option<Expr>,
+    ) -> Result<Flow, Stop>
         requires { Nests self.now.program.now self.now.limit self.now.depth (F.pre self.now.low) (F.post self.now.low) }
         ensures { TellsFlow (spec.raise (here self.now.program.now self.now.limit self.now.depth) (scope_of scope.now) kind text.now (seen state.old)) result state.new }
     {
@@ -183,7 +256,12 @@ impl<'m, F: Fn(Global, &Prepared<'_>, u64, u32, &mut State, &[Consumer<'_>], Tas
     }
 
     /// `return e`.
-    pub(crate) fn returned(&self, state: &mut State, scope: &Scope<'_>, e: &Option<Expr>) -> Result<Flow, Stop>
+    pub(crate) fn returned(
+        &self,
+        state: &mut State,
+        scope: &Scope<'_>,
+        e: &Option<Expr>,
+    ) -> Result<Flow, Stop>
         requires { Nests self.now.program.now self.now.limit self.now.depth (F.pre self.now.low) (F.post self.now.low) }
         ensures { TellsFlow (spec.returned (here self.now.program.now self.now.limit self.now.depth) (scope_of scope.now) e.now (seen state.old)) result state.new }
     {
@@ -197,7 +275,12 @@ impl<'m, F: Fn(Global, &Prepared<'_>, u64, u32, &mut State, &[Consumer<'_>], Tas
     }
 
     /// Whether a turn of `while` is made, for which a tick is taken.
-    pub(crate) fn while_next(&self, state: &mut State, scope: &Scope<'_>, e: &Expr) -> Result<Option<(Value, ())>, Stop>
+    pub(crate) fn while_next(
+        &self,
+        state: &mut State,
+        scope: &Scope<'_>,
+        e: &Expr,
+    ) -> Result<Option<(Value, ())>, Stop>
         requires { Nests self.now.program.now self.now.limit self.now.depth (F.pre self.now.low) (F.post self.now.low) }
         ensures { Tells (while_next self.now.limit (condition (here self.now.program.now self.now.limit self.now.depth) (scope_of scope.now) e.now) tt (seen state.old)) result state.new }
     {
@@ -209,7 +292,13 @@ impl<'m, F: Fn(Global, &Prepared<'_>, u64, u32, &mut State, &[Consumer<'_>], Tas
     }
 
     /// `yield e`.
-    pub(crate) fn give_item(&self, state: &mut State, consumers: &[Consumer<'_>], scope: &Scope<'_>, e: &Expr) -> Result<Flow, Stop>
+    pub(crate) fn give_item(
+        &self,
+        state: &mut State,
+        consumers: &[Consumer<'_>],
+        scope: &Scope<'_>,
+        e: &Expr,
+    ) -> Result<Flow, Stop>
         requires { Nests self.now.program.now self.now.limit self.now.depth (F.pre self.now.low) (F.post self.now.low) }
         ensures { TellsFlow (bind (expr (here self.now.program.now self.now.limit self.now.depth) (scope_of scope.now) e.now) (yield (here self.now.program.now self.now.limit self.now.depth) (consumers_of consumers.now)) (seen state.old)) result state.new }
     {
@@ -218,7 +307,13 @@ impl<'m, F: Fn(Global, &Prepared<'_>, u64, u32, &mut State, &[Consumer<'_>], Tas
     }
 
     /// `assert e, text`.
-    pub(crate) fn asserted(&self, state: &mut State, scope: &Scope<'_>, e: &Expr, text: &Option<Expr>) -> Result<Flow, Stop>
+    pub(crate) fn asserted(
+        &self,
+        state: &mut State,
+        scope: &Scope<'_>,
+        e: &Expr,
+        text: &Option<Expr>,
+    ) -> Result<Flow, Stop>
         requires { Nests self.now.program.now self.now.limit self.now.depth (F.pre self.now.low) (F.post self.now.low) }
         ensures { TellsFlow (bind (condition (here self.now.program.now self.now.limit self.now.depth) (scope_of scope.now) e.now) (λ t. if t then pure Next else spec.raise (here self.now.program.now self.now.limit self.now.depth) (scope_of scope.now) (Some kind.Assertion) text.now) (seen state.old)) result state.new }
     {
@@ -230,7 +325,13 @@ impl<'m, F: Fn(Global, &Prepared<'_>, u64, u32, &mut State, &[Consumer<'_>], Tas
     }
 
     /// `name: annotation = e`.
-    pub(crate) fn annotation(&self, state: &mut State, scope: &Scope<'_>, name: &Name, e: &Option<Expr>) -> Result<Flow, Stop>
+    pub(crate) fn annotation(
+        &self,
+        state: &mut State,
+        scope: &Scope<'_>,
+        name: &Name,
+        e: &Option<Expr>,
+    ) -> Result<Flow, Stop>
         requires { Nests self.now.program.now self.now.limit self.now.depth (F.pre self.now.low) (F.post self.now.low) }
         ensures { TellsFlow (spec.done (here self.now.program.now self.now.limit self.now.depth) (spec.annotated (here self.now.program.now self.now.limit self.now.depth) (scope_of scope.now) name.now e.now) (seen state.old)) result state.new }
     {
@@ -239,7 +340,13 @@ impl<'m, F: Fn(Global, &Prepared<'_>, u64, u32, &mut State, &[Consumer<'_>], Tas
     }
 
     /// `targets = e`.
-    pub(crate) fn assignment(&self, state: &mut State, scope: &Scope<'_>, written: &Targets, e: &Expr) -> Result<Flow, Stop>
+    pub(crate) fn assignment(
+        &self,
+        state: &mut State,
+        scope: &Scope<'_>,
+        written: &Targets,
+        e: &Expr,
+    ) -> Result<Flow, Stop>
         requires { Nests self.now.program.now self.now.limit self.now.depth (F.pre self.now.low) (F.post self.now.low) }
         ensures { TellsFlow (spec.done (here self.now.program.now self.now.limit self.now.depth) (bind (expr (here self.now.program.now self.now.limit self.now.depth) (scope_of scope.now) e.now) (spec.assign_all (here self.now.program.now self.now.limit self.now.depth) (scope_of scope.now) written.now)) (seen state.old)) result state.new }
     {
@@ -249,7 +356,14 @@ impl<'m, F: Fn(Global, &Prepared<'_>, u64, u32, &mut State, &[Consumer<'_>], Tas
     }
 
     /// `target op= e`.
-    pub(crate) fn augmented(&self, state: &mut State, scope: &Scope<'_>, written: &Target, by: BinaryOp, e: &Expr) -> Result<Flow, Stop>
+    pub(crate) fn augmented(
+        &self,
+        state: &mut State,
+        scope: &Scope<'_>,
+        written: &Target,
+        by: BinaryOp,
+        e: &Expr,
+    ) -> Result<Flow, Stop>
         requires { Nests self.now.program.now self.now.limit self.now.depth (F.pre self.now.low) (F.post self.now.low) }
         ensures { TellsFlow (spec.done (here self.now.program.now self.now.limit self.now.depth) (spec.update (here self.now.program.now self.now.limit self.now.depth) (scope_of scope.now) written.now by e.now) (seen state.old)) result state.new }
     {
@@ -258,7 +372,12 @@ impl<'m, F: Fn(Global, &Prepared<'_>, u64, u32, &mut State, &[Consumer<'_>], Tas
     }
 
     /// An expression whose value is dropped.
-    pub(crate) fn evaluated(&self, state: &mut State, scope: &Scope<'_>, e: &Expr) -> Result<Flow, Stop>
+    pub(crate) fn evaluated(
+        &self,
+        state: &mut State,
+        scope: &Scope<'_>,
+        e: &Expr,
+    ) -> Result<Flow, Stop>
         requires { Nests self.now.program.now self.now.limit self.now.depth (F.pre self.now.low) (F.post self.now.low) }
         ensures { TellsFlow (bind (expr (here self.now.program.now self.now.limit self.now.depth) (scope_of scope.now) e.now) (λ _. pure Next) (seen state.old)) result state.new }
     {
@@ -267,7 +386,12 @@ impl<'m, F: Fn(Global, &Prepared<'_>, u64, u32, &mut State, &[Consumer<'_>], Tas
     }
 
     /// `print(..)`.
-    pub(crate) fn print_statement(&self, state: &mut State, scope: &Scope<'_>, printed: &Printed) -> Result<Flow, Stop>
+    pub(crate) fn print_statement(
+        &self,
+        state: &mut State,
+        scope: &Scope<'_>,
+        printed: &Printed,
+    ) -> Result<Flow, Stop>
         requires { Nests self.now.program.now self.now.limit self.now.depth (F.pre self.now.low) (F.post self.now.low) }
         ensures { TellsFlow (spec.done (here self.now.program.now self.now.limit self.now.depth) (print_after (here self.now.program.now self.now.limit self.now.depth) (scope_of scope.now) [] printed.now) (seen state.old)) result state.new }
     {

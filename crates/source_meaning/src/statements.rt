@@ -29,9 +29,26 @@ use source_trees::{Arm, Expr, For, LoopNames, Stmt};
 use sqlite_items::Items;
 use std::alloc::Global;
 
-impl<'m, F: Fn(Global, &Prepared<'_>, u64, u32, &mut State, &[Consumer<'_>], Task<'_>) -> Result<Flow, Stop>> Runner<'m, F> {
+impl<
+    'm,
+    F: Fn(
+        Global,
+        &Prepared<'_>,
+        u64,
+        u32,
+        &mut State,
+        &[Consumer<'_>],
+        Task<'_>,
+    ) -> Result<Flow, Stop>,
+> Runner<'m, F> {
     #[cycle(statement)]
-    pub(crate) fn block(&self, state: &mut State, consumers: &[Consumer<'_>], scope: &Scope<'_>, body: &Items<Stmt>) -> Result<Flow, Stop>
+    pub(crate) fn block(
+        &self,
+        state: &mut State,
+        consumers: &[Consumer<'_>],
+        scope: &Scope<'_>,
+        body: &Items<Stmt>,
+    ) -> Result<Flow, Stop>
         requires { Nests self.now.program.now self.now.limit self.now.depth (F.pre self.now.low) (F.post self.now.low) }
         ensures { TellsFlow (statements (here self.now.program.now self.now.limit self.now.depth) (consumers_of consumers.now) (scope_of scope.now) body.now (seen state.old)) result state.new }
     {
@@ -45,7 +62,13 @@ impl<'m, F: Fn(Global, &Prepared<'_>, u64, u32, &mut State, &[Consumer<'_>], Tas
     }
 
     #[cycle(statement)]
-    pub(crate) fn statement(&self, state: &mut State, consumers: &[Consumer<'_>], scope: &Scope<'_>, s: &Stmt) -> Result<Flow, Stop>
+    pub(crate) fn statement(
+        &self,
+        state: &mut State,
+        consumers: &[Consumer<'_>],
+        scope: &Scope<'_>,
+        s: &Stmt,
+    ) -> Result<Flow, Stop>
         requires { Nests self.now.program.now self.now.limit self.now.depth (F.pre self.now.low) (F.post self.now.low) }
         ensures { TellsFlow (stmt (here self.now.program.now self.now.limit self.now.depth) (consumers_of consumers.now) s.now (scope_of scope.now) (seen state.old)) result state.new }
     {
@@ -55,7 +78,12 @@ impl<'m, F: Fn(Global, &Prepared<'_>, u64, u32, &mut State, &[Consumer<'_>], Tas
             Stmt::Continue(_) => Ok(ended(End::Continue)),
             Stmt::Return(_, e) => self.returned(state, scope, e),
             Stmt::Yield(_, e) => self.give_item(state, consumers, scope, e),
-            Stmt::Raise(_, name, text) => self.raise(state, scope, fault_named(&name.spelling), text),
+            Stmt::Raise(_, name, text) => self.raise(
+                state,
+                scope,
+                fault_named(&name.spelling),
+                text,
+            ),
             Stmt::Assert(_, e, text) => self.asserted(state, scope, e, text),
             Stmt::Annotated(_, name, _, e) => self.annotation(state, scope, name, e),
             Stmt::Assign(_, written, e) => self.assignment(state, scope, written, e),
@@ -63,7 +91,9 @@ impl<'m, F: Fn(Global, &Prepared<'_>, u64, u32, &mut State, &[Consumer<'_>], Tas
             Stmt::Evaluate(_, e) => self.evaluated(state, scope, e),
             Stmt::Print(_, printed) => self.print_statement(state, scope, printed),
             Stmt::Pipeline(_, head, stages) => self.pipeline(state, consumers, scope, head, stages),
-            Stmt::If(_, arms, otherwise) => self.choose(state, consumers, scope, s, arms, otherwise),
+            Stmt::If(_, arms, otherwise) => self.choose(
+                state, consumers, scope, s, arms, otherwise,
+            ),
             Stmt::While(_, e, body) => self.while_loop(state, consumers, scope, body, e),
             Stmt::For(l) => self.for_loop(state, consumers, scope, l),
             Stmt::Par(_, _, l) => self.parallel_loop(state, consumers, scope, l),
@@ -71,7 +101,15 @@ impl<'m, F: Fn(Global, &Prepared<'_>, u64, u32, &mut State, &[Consumer<'_>], Tas
     }
 
     #[cycle(statement)]
-    fn choose(&self, state: &mut State, consumers: &[Consumer<'_>], scope: &Scope<'_>, s: &Stmt, arms: &Items<Arm>, otherwise: &Items<Stmt>) -> Result<Flow, Stop>
+    fn choose(
+        &self,
+        state: &mut State,
+        consumers: &[Consumer<'_>],
+        scope: &Scope<'_>,
+        s: &Stmt,
+        arms: &Items<Arm>,
+        otherwise: &Items<Stmt>,
+    ) -> Result<Flow, Stop>
         requires nests { Nests self.now.program.now self.now.limit self.now.depth (F.pre self.now.low) (F.post self.now.low) }
         requires form { IsIf s.now arms.now otherwise.now }
         ensures { TellsFlow (chosen (here self.now.program.now self.now.limit self.now.depth) (consumers_of consumers.now) (scope_of scope.now) arms.now otherwise.now (seen state.old)) result state.new }
@@ -85,7 +123,14 @@ impl<'m, F: Fn(Global, &Prepared<'_>, u64, u32, &mut State, &[Consumer<'_>], Tas
     }
 
     #[cycle(statement)]
-    fn while_loop(&self, state: &mut State, consumers: &[Consumer<'_>], scope: &Scope<'_>, body: &Items<Stmt>, e: &Expr) -> Result<Flow, Stop>
+    fn while_loop(
+        &self,
+        state: &mut State,
+        consumers: &[Consumer<'_>],
+        scope: &Scope<'_>,
+        body: &Items<Stmt>,
+        e: &Expr,
+    ) -> Result<Flow, Stop>
         requires { Nests self.now.program.now self.now.limit self.now.depth (F.pre self.now.low) (F.post self.now.low) }
         ensures { TellsFlow (bind (while_of (here self.now.program.now self.now.limit self.now.depth) (consumers_of consumers.now) (scope_of scope.now) e.now body.now) (λ flow. pure (spec.after_loop flow)) (seen state.old)) result state.new }
     {
@@ -106,7 +151,13 @@ impl<'m, F: Fn(Global, &Prepared<'_>, u64, u32, &mut State, &[Consumer<'_>], Tas
     }
 
     #[cycle(statement)]
-    fn for_loop(&self, state: &mut State, consumers: &[Consumer<'_>], scope: &Scope<'_>, l: &For) -> Result<Flow, Stop>
+    fn for_loop(
+        &self,
+        state: &mut State,
+        consumers: &[Consumer<'_>],
+        scope: &Scope<'_>,
+        l: &For,
+    ) -> Result<Flow, Stop>
         requires { Nests self.now.program.now self.now.limit self.now.depth (F.pre self.now.low) (F.post self.now.low) }
         ensures { TellsFlow (for_of (here self.now.program.now self.now.limit self.now.depth) (consumers_of consumers.now) (scope_of scope.now) l.now (seen state.old)) result state.new }
     {
@@ -117,23 +168,62 @@ impl<'m, F: Fn(Global, &Prepared<'_>, u64, u32, &mut State, &[Consumer<'_>], Tas
 
     /// A loop in turn, or in a region that runs.
     #[cycle(statement)]
-    pub(crate) fn loop_body(&self, state: &mut State, consumers: &[Consumer<'_>], scope: &Scope<'_>, region: Option<&Region>, l: &For, goes_over: Iterable<'m>) -> Result<Flow, Stop>
+    pub(crate) fn loop_body(
+        &self,
+        state: &mut State,
+        consumers: &[Consumer<'_>],
+        scope: &Scope<'_>,
+        region: Option<&Region>,
+        l: &For,
+        goes_over: Iterable<'m>,
+    ) -> Result<Flow, Stop>
         requires { Nests self.now.program.now self.now.limit self.now.depth (F.pre self.now.low) (F.post self.now.low) }
         ensures { TellsFlow (looped (here self.now.program.now self.now.limit self.now.depth) (consumers_of consumers.now) (iterable_of goes_over.entry) (consumer_in (region_at region.entry) (scope_of scope.now) l.now) (seen state.old)) result state.new }
     {
         match goes_over {
             Iterable::Generated(called, given) => match region {
-                Some(region) => self.generate(state, consumers, Consumer::Parallel(region, *scope, &l.names, &l.body), called, given),
-                None => self.generate(state, consumers, Consumer::Body(*scope, &l.names, &l.body), called, given),
+                Some(region) => self.generate(
+                    state,
+                    consumers,
+                    Consumer::Parallel(region, *scope, &l.names, &l.body),
+                    called,
+                    given,
+                ),
+                None => self.generate(
+                    state,
+                    consumers,
+                    Consumer::Body(*scope, &l.names, &l.body),
+                    called,
+                    given,
+                ),
             },
-            Iterable::Items(container) => self.turns(state, consumers, scope, region, l, Cursor::Item(container, 0)),
-            Iterable::Numbers(start, stop, step) => self.range_turns(state, consumers, scope, region, l, &start, &stop, &step),
+            Iterable::Items(container) => self.turns(
+                state,
+                consumers,
+                scope,
+                region,
+                l,
+                Cursor::Item(container, 0),
+            ),
+            Iterable::Numbers(start, stop, step) => self.range_turns(
+                state, consumers, scope, region, l, &start, &stop, &step,
+            ),
         }
     }
 
     /// The turns of a loop over a range.
     #[cycle(statement)]
-    fn range_turns(&self, state: &mut State, consumers: &[Consumer<'_>], scope: &Scope<'_>, region: Option<&Region>, l: &For, start: &Value, stop: &Value, step: &Value) -> Result<Flow, Stop>
+    fn range_turns(
+        &self,
+        state: &mut State,
+        consumers: &[Consumer<'_>],
+        scope: &Scope<'_>,
+        region: Option<&Region>,
+        l: &For,
+        start: &Value,
+        stop: &Value,
+        step: &Value,
+    ) -> Result<Flow, Stop>
         requires { Nests self.now.program.now self.now.limit self.now.depth (F.pre self.now.low) (F.post self.now.low) }
         ensures { TellsFlow (looped (here self.now.program.now self.now.limit self.now.depth) (consumers_of consumers.now) (Numbers start.now stop.now step.now) (consumer_in (region_at region.entry) (scope_of scope.now) l.now) (seen state.old)) result state.new }
     {
@@ -148,7 +238,15 @@ impl<'m, F: Fn(Global, &Prepared<'_>, u64, u32, &mut State, &[Consumer<'_>], Tas
 
     /// The turns of a loop in place.
     #[cycle(statement)]
-    fn turns(&self, state: &mut State, consumers: &[Consumer<'_>], scope: &Scope<'_>, region: Option<&Region>, l: &For, from: Cursor) -> Result<Flow, Stop>
+    fn turns(
+        &self,
+        state: &mut State,
+        consumers: &[Consumer<'_>],
+        scope: &Scope<'_>,
+        region: Option<&Region>,
+        l: &For,
+        from: Cursor,
+    ) -> Result<Flow, Stop>
         requires { Nests self.now.program.now self.now.limit self.now.depth (F.pre self.now.low) (F.post self.now.low) }
         ensures { TellsFlow (turns_from (here self.now.program.now self.now.limit self.now.depth) (turn_of (here self.now.program.now self.now.limit self.now.depth) (consumers_of consumers.now) (consumer_in (region_at region.entry) (scope_of scope.now) l.now)) from (seen state.old)) result state.new }
     {
@@ -171,19 +269,37 @@ impl<'m, F: Fn(Global, &Prepared<'_>, u64, u32, &mut State, &[Consumer<'_>], Tas
     }
 
     #[cycle(statement)]
-    fn a_turn(&self, state: &mut State, consumers: &[Consumer<'_>], scope: &Scope<'_>, region: Option<&Region>, l: &For, v: Value) -> Result<Flow, Stop>
+    fn a_turn(
+        &self,
+        state: &mut State,
+        consumers: &[Consumer<'_>],
+        scope: &Scope<'_>,
+        region: Option<&Region>,
+        l: &For,
+        v: Value,
+    ) -> Result<Flow, Stop>
         requires { Nests self.now.program.now self.now.limit self.now.depth (F.pre self.now.low) (F.post self.now.low) }
         ensures { TellsFlow (turn_of (here self.now.program.now self.now.limit self.now.depth) (consumers_of consumers.now) (consumer_in (region_at region.entry) (scope_of scope.now) l.now) v (seen state.old)) result state.new }
     {
         match region {
-            Some(region) => self.parallel_turn(state, consumers, region, scope, &l.names, &l.body, v),
+            Some(region) => self.parallel_turn(
+                state, consumers, region, scope, &l.names, &l.body, v,
+            ),
             None => self.body_turn(state, consumers, scope, &l.names, &l.body, v),
         }
     }
 
     /// A turn of a loop.
     #[cycle(statement)]
-    pub(crate) fn body_turn(&self, state: &mut State, consumers: &[Consumer<'_>], scope: &Scope<'_>, names: &LoopNames, body: &Items<Stmt>, v: Value) -> Result<Flow, Stop>
+    pub(crate) fn body_turn(
+        &self,
+        state: &mut State,
+        consumers: &[Consumer<'_>],
+        scope: &Scope<'_>,
+        names: &LoopNames,
+        body: &Items<Stmt>,
+        v: Value,
+    ) -> Result<Flow, Stop>
         requires { Nests self.now.program.now self.now.limit self.now.depth (F.pre self.now.low) (F.post self.now.low) }
         ensures { TellsFlow (turn_of (here self.now.program.now self.now.limit self.now.depth) (consumers_of consumers.now) (Body (scope_of scope.now) names.now body.now) v (seen state.old)) result state.new }
     {

@@ -83,13 +83,7 @@ impl<'a, R: Abort> Trees<'a, R> {
         Expr::Comprehension(NODE, self.part(item), names, self.part(iterable), None)
     }
 
-    pub fn each_if(
-        &self,
-        item: Expr,
-        names: LoopNames,
-        iterable: Expr,
-        condition: Expr,
-    ) -> Expr {
+    pub fn each_if(&self, item: Expr, names: LoopNames, iterable: Expr, condition: Expr) -> Expr {
         let condition = self.part(condition);
         Expr::Comprehension(
             NODE,

@@ -89,7 +89,7 @@ perform_ahead-returns-in-Ok g t c =
     let run : Option Region → Run Flow = λ r. staged (here c.args.self.now.program.now c.args.self.now.limit c.args.self.now.depth) (consumers_of c.args.consumers.now) (scope_of c.args.scope.now) c.args.form.now r (drop c.args.from c.args.stages.now) c.args.v in
     let there : c.in-Some.place < length c.args.stages.now = subst (λ (l : List Stage). c.in-Some.place < length l) c.as_slice.ensures c.in-Some.ensures.0 in
     let parts : parallel_part (drop c.args.from c.args.stages.now) ≡ drop c.in-Some.place c.args.stages.now =
-        ap (λ (l : List Stage). parallel_part (drop c.args.from l)) (sym c.as_slice.ensures) ∙ c.in-Some.ensures.1 ∙ ap (λ (l : List Stage). drop c.in-Some.place l) c.as_slice.ensures in
+    ap (λ (l : List Stage). parallel_part (drop c.args.from l)) (sym c.as_slice.ensures) ∙ c.in-Some.ensures.1 ∙ ap (λ (l : List Stage). drop c.in-Some.place l) c.as_slice.ensures in
     let begins = ahead_some (here c.args.self.now.program.now c.args.self.now.limit c.args.self.now.depth) (consumers_of c.args.consumers.now) (scope_of c.args.scope.now) run c.args.stages.now (parallel_part (drop c.args.from c.args.stages.now)) c.in-Some.place (seen c.args.state.now) there parts in
     subst (λ (o : Outcome Flow). TellsFlow o c.perform_inside.result c.perform_inside.new.state)
     (sym (begins ∙ ap (λ (p : Outcome Region). and_then p (λ region. in_place.region region (run (Some region)))) c.in-Ok.ensures))
@@ -101,7 +101,7 @@ perform_ahead-returns-in-Err g t c = λ known.
     let run : Option Region → Run Flow = λ r. staged (here c.args.self.now.program.now c.args.self.now.limit c.args.self.now.depth) (consumers_of c.args.consumers.now) (scope_of c.args.scope.now) c.args.form.now r (drop c.args.from c.args.stages.now) c.args.v in
     let there : c.in-Some.place < length c.args.stages.now = subst (λ (l : List Stage). c.in-Some.place < length l) c.as_slice.ensures c.in-Some.ensures.0 in
     let parts : parallel_part (drop c.args.from c.args.stages.now) ≡ drop c.in-Some.place c.args.stages.now =
-        ap (λ (l : List Stage). parallel_part (drop c.args.from l)) (sym c.as_slice.ensures) ∙ c.in-Some.ensures.1 ∙ ap (λ (l : List Stage). drop c.in-Some.place l) c.as_slice.ensures in
+    ap (λ (l : List Stage). parallel_part (drop c.args.from l)) (sym c.as_slice.ensures) ∙ c.in-Some.ensures.1 ∙ ap (λ (l : List Stage). drop c.in-Some.place l) c.as_slice.ensures in
     let begins = ahead_some (here c.args.self.now.program.now c.args.self.now.limit c.args.self.now.depth) (consumers_of c.args.consumers.now) (scope_of c.args.scope.now) run c.args.stages.now (parallel_part (drop c.args.from c.args.stages.now)) c.in-Some.place (seen c.args.state.now) there parts in
     begins ∙ ap (λ (p : Outcome Region). and_then p (λ region. in_place.region region (run (Some region)))) (c.in-Err.ensures known)
 

@@ -53,7 +53,7 @@ invariant-through-stages g l =
     let at = here l.self.program.now l.self.limit l.self.depth in
     (l.place ≤ l.at)
     × (through at (consumers_of l.consumers) (scope_of l.scope) (region_at l.region) (drop l.place l.stages) l.fn.v (seen l.fn.state)
-       ≡ through at (consumers_of l.consumers) (scope_of l.scope) (region_at l.region) (drop l.at l.stages) l.passed (seen l.state))
+    ≡ through at (consumers_of l.consumers) (scope_of l.scope) (region_at l.region) (drop l.at l.stages) l.passed (seen l.state))
 
 abbrev pub decreases-through-stages : goal.decreases-through-stages
 decreases-through-stages g l = length l.stages - l.at
