@@ -1,14 +1,6 @@
 mod build;
-mod depths;
-mod expressions;
-mod functions;
-mod generators;
-mod lists;
-mod names;
 mod pipelines;
-mod regions;
 mod statements;
-mod ticks;
 
 use crate::{PlainEnd, run_plain};
 use build::Trees;
