@@ -28,7 +28,8 @@ use Rattle.parse_expressions.specs.Reading as reading
 use Rattle.parse_expressions.specs.Reading.{is_open, is_square, is_square_close, is_dot, is_colon, is_trailer}
 use Rattle.parse_expressions.proofs.Tokens.{op_kind, or_first, or_second, or_none}
 use Rattle.parse_expressions.proofs.Opens.{x_token, op_token, opens}
-use Rattle.parse_expressions.proofs.Heights.{heights, height-Index, height-Slice, height-Field, height-MethodCall}
+use Rattle.parse_expressions.specs.Reading.{heights}
+use Rattle.parse_expressions.proofs.Heights.{height-Index, height-Slice, height-Field, height-MethodCall}
 use Rattle.parse_expressions.proofs.Lows.{highest_up, highest_down, highest-append, no_room, LowOption, optional_up, optional_down}
 use Rattle.parse_expressions.proofs.Leaves.{Free_of_limit}
 use Rattle.parse_expressions.proofs.Rows.{Reads, arguments_law}

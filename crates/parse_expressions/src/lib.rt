@@ -6,11 +6,17 @@
 //! the leaves, texts and names, and builders of trees. It knows nothing of statements.
 #![tactic(auto)]
 
+mod atom;
+mod condition;
 mod cursor;
 mod form;
 mod laws;
 mod leaf;
 mod measured;
+mod operator;
+mod postfix;
+mod read;
+mod reader;
 mod start;
 #[cfg(test)]
 mod tests;

@@ -1,0 +1,149 @@
+ghost use Rattle.std.specs.Prelude.{◌≡◌, IfOk};
+ghost use Rattle.parse_laws.specs.Parser.{choose};
+ghost use Rattle.parse_expressions.specs.Reading as spec;
+ghost use Rattle.parse_expressions.specs.Code.{Reads, Subs};
+
+use crate::cursor::node_at;
+use crate::measured::{self, Measured, Row};
+use crate::reader::Expressions;
+use crate::start::{Start, start_of};
+use crate::{Cursor, Form, ParseError};
+use grammar_rules::Junction;
+use indent_lexer::Token;
+use parse_laws::Cause;
+use source_trees::{Commas, LoopNames, Name, Node};
+use std::alloc::{AllocError, Global};
+
+/// One expression in brackets, or a tuple where a comma stands.
+#[tactic(auto, using(crate::proofs::Counting::round_many))]
+fn round_tree(alloc: Global, open: &Token, row: Row, more: bool) -> Result<Measured, AllocError>
+    ensures { IfOk result (λ x. x ≡ spec.round_tree open.now (row, more)) }
+{
+    if more {
+        return Ok(measured::tuple(node_at(open), Commas::Bracketed, row));
+    }
+    match row.single() {
+        Ok(inner) => Ok(measured::bracketed(alloc, node_at(open), inner)?),
+        Err(row) => Ok(measured::tuple(node_at(open), Commas::Bracketed, row)),
+    }
+}
+
+impl<F: Fn(Global, &mut Cursor<'_>, u32, Form) -> Result<Measured, ParseError>> Expressions<F> {
+    /// A name, or a call of it.
+    #[tactic(auto, unfolding(crate::specs::Reading::named_rest))]
+    fn named_rest(&self, cursor: &mut Cursor<'_>, name: Name) -> Result<Measured, ParseError>
+        requires { Subs self.now.room (F.pre self.now.sub) (F.post self.now.sub) }
+        ensures { Reads (spec.named_rest self.now.room (spec.read self.now.room) name cursor.old) result cursor.new }
+    {
+        if !cursor.sees_op(b"(".as_slice()) {
+            return Ok(measured::name_tree(name));
+        }
+        if self.room < 1 {
+            return Err(ParseError::Refused(Cause::TooDeep));
+        }
+        let row = self.arguments(cursor)?;
+        Ok(measured::call(name, row))
+    }
+
+    /// What stands in round brackets.
+    #[tactic(auto, unfolding(crate::specs::Reading::round))]
+    fn round(&self, cursor: &mut Cursor<'_>) -> Result<Measured, ParseError>
+        requires { Subs self.now.room (F.pre self.now.sub) (F.post self.now.sub) }
+        ensures { Reads (spec.round self.now.room (spec.read self.now.room) cursor.old) result cursor.new }
+    {
+        if self.room < 1 {
+            return Err(ParseError::Refused(Cause::TooDeep));
+        }
+        let open = cursor.expect_op(b"(".as_slice())?;
+        let (row, more) = self.row(cursor, true)?;
+        cursor.expect_op(b")".as_slice())?;
+        let tree = round_tree(self.alloc, open, row, more)?;
+        Ok(tree)
+    }
+
+    /// The condition of a comprehension, if it has one.
+    #[tactic(auto, unfolding(crate::specs::Reading::filter))]
+    fn filter(&self, cursor: &mut Cursor<'_>) -> Result<Option<Measured>, ParseError>
+        requires { Subs self.now.room (F.pre self.now.sub) (F.post self.now.sub) }
+        ensures { Reads (spec.filter self.now.room (spec.read self.now.room) cursor.old) result cursor.new }
+    {
+        if !cursor.sees_keyword(b"if".as_slice()) {
+            return Ok(None);
+        }
+        cursor.expect_keyword(b"if".as_slice())?;
+        let condition = self.sub(cursor, Form::Joined(Junction::Or))?;
+        Ok(Some(condition))
+    }
+
+    /// What follows the item of a comprehension.
+    #[tactic(auto, unfolding(crate::specs::Reading::comprehension))]
+    fn comprehension(&self, cursor: &mut Cursor<'_>, open: &Token, item: Measured) -> Result<Measured, ParseError>
+        requires { Subs self.now.room (F.pre self.now.sub) (F.post self.now.sub) }
+        ensures { Reads (spec.comprehension self.now.room (spec.read self.now.room) open.now item cursor.old) result cursor.new }
+    {
+        cursor.expect_keyword(b"for".as_slice())?;
+        let names = cursor.names(self.alloc)?;
+        cursor.expect_keyword(b"in".as_slice())?;
+        let iterable = self.sub(cursor, Form::Joined(Junction::Or))?;
+        let condition = self.filter(cursor)?;
+        cursor.expect_op(b"]".as_slice())?;
+        let tree = measured::comprehension(self.alloc, node_at(open), item, names, iterable, condition)?;
+        Ok(tree)
+    }
+
+    /// What follows the first item of a list.
+    #[tactic(auto, unfolding(crate::specs::Reading::items))]
+    fn items(&self, cursor: &mut Cursor<'_>, open: &Token, item: Measured) -> Result<Measured, ParseError>
+        requires { Subs self.now.room (F.pre self.now.sub) (F.post self.now.sub) }
+        ensures { Reads (spec.items self.now.room (spec.read self.now.room) open.now item cursor.old) result cursor.new }
+    {
+        let first = Row::new(self.alloc).push(item)?;
+        let (row, _more) = self.rest(cursor, first, false)?;
+        cursor.expect_op(b"]".as_slice())?;
+        Ok(measured::list(node_at(open), row))
+    }
+
+    /// What stands in square brackets.
+    #[tactic(auto, unfolding(crate::specs::Reading::square))]
+    fn square(&self, cursor: &mut Cursor<'_>) -> Result<Measured, ParseError>
+        requires { Subs self.now.room (F.pre self.now.sub) (F.post self.now.sub) }
+        ensures { Reads (spec.square self.now.room (spec.read self.now.room) cursor.old) result cursor.new }
+    {
+        let open = cursor.expect_op(b"[".as_slice())?;
+        if cursor.sees_op(b"]".as_slice()) {
+            cursor.expect_op(b"]".as_slice())?;
+            return Ok(measured::list(node_at(open), Row::new(self.alloc)));
+        }
+        let item = self.sub(cursor, Form::Whole)?;
+        if cursor.sees_keyword(b"for".as_slice()) {
+            self.comprehension(cursor, open, item)
+        } else {
+            self.items(cursor, open, item)
+        }
+    }
+
+    /// A name and what follows it.
+    fn named(&self, cursor: &mut Cursor<'_>) -> Result<Measured, ParseError>
+        requires { Subs self.now.room (F.pre self.now.sub) (F.post self.now.sub) }
+        ensures { Reads (and_then (take_by spec.plain_at cursor.old) (spec.named_rest self.now.room (spec.read self.now.room))) result cursor.new }
+    {
+        let name = cursor.take_plain_name(self.alloc)?;
+        self.named_rest(cursor, name)
+    }
+
+    /// What needs nothing before it.
+    #[tactic(auto, unfolding(crate::specs::Reading::atom, crate::specs::Reading::atom_from))]
+    pub fn atom(&self, cursor: &mut Cursor<'_>) -> Result<Measured, ParseError>
+        requires { Subs self.now.room (F.pre self.now.sub) (F.post self.now.sub) }
+        ensures { Reads (spec.atom self.now.room (spec.read self.now.room) cursor.old) result cursor.new }
+    {
+        match start_of(cursor) {
+            Start::Named => self.named(cursor),
+            Start::Leaf => cursor.take_leaf(),
+            Start::Texts => cursor.texts(self.alloc),
+            Start::Round => self.round(cursor),
+            Start::Square => self.square(cursor),
+            Start::Nowhere => Err(ParseError::Refused(Cause::Unexpected)),
+        }
+    }
+}
