@@ -1,5 +1,5 @@
 ghost use Rattle.std.specs.Prelude.{◌≡◌, IfOk};
-ghost use Rattle.parse_laws.specs.Parser.{choose};
+ghost use Rattle.parse_laws.specs.Parser.{and_then, take_by};
 ghost use Rattle.parse_expressions.specs.Reading as spec;
 ghost use Rattle.parse_expressions.specs.Code.{Reads, Subs};
 
@@ -77,7 +77,12 @@ impl<F: Fn(Global, &mut Cursor<'_>, u32, Form) -> Result<Measured, ParseError>> 
 
     /// What follows the item of a comprehension.
     #[tactic(auto, unfolding(crate::specs::Reading::comprehension))]
-    fn comprehension(&self, cursor: &mut Cursor<'_>, open: &Token, item: Measured) -> Result<Measured, ParseError>
+    fn comprehension(
+        &self,
+        cursor: &mut Cursor<'_>,
+        open: &Token,
+        item: Measured,
+    ) -> Result<Measured, ParseError>
         requires { Subs self.now.room (F.pre self.now.sub) (F.post self.now.sub) }
         ensures { Reads (spec.comprehension self.now.room (spec.read self.now.room) open.now item cursor.old) result cursor.new }
     {
@@ -87,13 +92,25 @@ impl<F: Fn(Global, &mut Cursor<'_>, u32, Form) -> Result<Measured, ParseError>> 
         let iterable = self.sub(cursor, Form::Joined(Junction::Or))?;
         let condition = self.filter(cursor)?;
         cursor.expect_op(b"]".as_slice())?;
-        let tree = measured::comprehension(self.alloc, node_at(open), item, names, iterable, condition)?;
+        let tree = measured::comprehension(
+            self.alloc,
+            node_at(open),
+            item,
+            names,
+            iterable,
+            condition,
+        )?;
         Ok(tree)
     }
 
     /// What follows the first item of a list.
     #[tactic(auto, unfolding(crate::specs::Reading::items))]
-    fn items(&self, cursor: &mut Cursor<'_>, open: &Token, item: Measured) -> Result<Measured, ParseError>
+    fn items(
+        &self,
+        cursor: &mut Cursor<'_>,
+        open: &Token,
+        item: Measured,
+    ) -> Result<Measured, ParseError>
         requires { Subs self.now.room (F.pre self.now.sub) (F.post self.now.sub) }
         ensures { Reads (spec.items self.now.room (spec.read self.now.room) open.now item cursor.old) result cursor.new }
     {

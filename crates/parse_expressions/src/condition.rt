@@ -30,7 +30,12 @@ fn word_of(junction: Junction) -> &'static [u8]
 }
 
 /// The first operand alone, or the node of several.
-fn join_all(alloc: Global, junction: Junction, first: Measured, row: Row) -> Result<Measured, AllocError>
+fn join_all(
+    alloc: Global,
+    junction: Junction,
+    first: Measured,
+    row: Row,
+) -> Result<Measured, AllocError>
     ensures { IfOk result (λ x. x ≡ spec.join_all junction (first, row)) }
 {
     if row.len() == 0 {
@@ -41,7 +46,11 @@ fn join_all(alloc: Global, junction: Junction, first: Measured, row: Row) -> Res
     Ok(measured::joined(junction, node, all))
 }
 
-fn compare_all(alloc: Global, first: Measured, comparisons: Comparisons) -> Result<Measured, AllocError>
+fn compare_all(
+    alloc: Global,
+    first: Measured,
+    comparisons: Comparisons,
+) -> Result<Measured, AllocError>
     ensures { IfOk result (λ x. x ≡ spec.compare_all (first, comparisons)) }
 {
     if comparisons.is_empty() {
@@ -69,7 +78,11 @@ impl<'a> Cursor<'a> {
 impl<F: Fn(Global, &mut Cursor<'_>, u32, Form) -> Result<Measured, ParseError>> Expressions<F> {
     /// A comparator and its right operand beside those that stand, if there is room.
     #[tactic(auto, unfolding(crate::specs::Reading::comparison))]
-    fn comparison_turn(&self, cursor: &mut Cursor<'_>, beside: Compared) -> Result<Compared, ParseError>
+    fn comparison_turn(
+        &self,
+        cursor: &mut Cursor<'_>,
+        beside: Compared,
+    ) -> Result<Compared, ParseError>
         requires { Subs self.now.room (F.pre self.now.sub) (F.post self.now.sub) }
         ensures { Reads (within (spec.fits_more self.now.room (spec.read self.now.room) beside) (spec.comparison self.now.room (spec.read self.now.room) >>= λ y. pure (beside.0, beside.1 ++ y ∷ [])) cursor.old) result cursor.new }
     {
@@ -130,7 +143,12 @@ impl<F: Fn(Global, &mut Cursor<'_>, u32, Form) -> Result<Measured, ParseError>> 
 
     /// The word of a junction and an operand beside those that stand, if there is room.
     #[tactic(auto, unfolding(crate::specs::Reading::joint_after))]
-    fn joint_turn(&self, cursor: &mut Cursor<'_>, junction: Junction, beside: Operands) -> Result<Operands, ParseError>
+    fn joint_turn(
+        &self,
+        cursor: &mut Cursor<'_>,
+        junction: Junction,
+        beside: Operands,
+    ) -> Result<Operands, ParseError>
         requires { Subs self.now.room (F.pre self.now.sub) (F.post self.now.sub) }
         ensures { Reads (within (spec.fits_more self.now.room (spec.read self.now.room) beside) (spec.joint_after self.now.room (spec.read self.now.room) junction >>= λ y. pure (beside.0, beside.1 ++ y ∷ [])) cursor.old) result cursor.new }
     {
@@ -145,7 +163,12 @@ impl<F: Fn(Global, &mut Cursor<'_>, u32, Form) -> Result<Measured, ParseError>> 
     }
 
     /// The operands beside a first one.
-    fn joints(&self, cursor: &mut Cursor<'_>, junction: Junction, first: Measured) -> Result<Operands, ParseError>
+    fn joints(
+        &self,
+        cursor: &mut Cursor<'_>,
+        junction: Junction,
+        first: Measured,
+    ) -> Result<Operands, ParseError>
         requires { Subs self.now.room (F.pre self.now.sub) (F.post self.now.sub) }
         ensures { Reads (spec.several self.now.room (spec.read self.now.room) (is_keyword (word_of junction)) (spec.joint_after self.now.room (spec.read self.now.room) junction) first cursor.old) result cursor.new }
     {

@@ -20,10 +20,13 @@ mod reader;
 mod start;
 #[cfg(test)]
 mod tests;
+mod types;
 mod word;
 
 pub use cursor::{Cursor, ParseError, is_keyword, is_op, is_word, node_at};
 pub use form::Form;
 pub use laws::{law_of_expressions, law_of_types};
 pub use measured::{Comparisons, Measured, Row};
+pub use read::read_expression;
 pub use start::{Start, TypeStart, start_of, type_start_of};
+pub use types::read_type;

@@ -510,7 +510,13 @@ pub fn compare(
 
 /// `object[from:to]`.
 #[tactic(auto, using(crate::proofs::Heights::slice_height))]
-pub fn slice(alloc: Global, node: Node, object: Measured, from: Option<Measured>, to: Option<Measured>) -> Result<Measured, AllocError>
+pub fn slice(
+    alloc: Global,
+    node: Node,
+    object: Measured,
+    from: Option<Measured>,
+    to: Option<Measured>,
+) -> Result<Measured, AllocError>
     ensures { IfOk result (λ x. x ≡ Expr.Slice node object from to) }
 {
     let bounds = height_of(&from).max(height_of(&to));
@@ -545,10 +551,20 @@ fn boxed(alloc: Global, tree: Option<Measured>) -> Result<Option<Boxed<Expr>>, A
 
 /// `[item for names in iterable]`, or with a condition.
 #[tactic(auto, using(crate::proofs::Lows::comprehension_height))]
-pub fn comprehension(alloc: Global, node: Node, item: Measured, names: LoopNames, iterable: Measured, condition: Option<Measured>) -> Result<Measured, AllocError>
+pub fn comprehension(
+    alloc: Global,
+    node: Node,
+    item: Measured,
+    names: LoopNames,
+    iterable: Measured,
+    condition: Option<Measured>,
+) -> Result<Measured, AllocError>
     ensures { IfOk result (λ x. x ≡ Expr.Comprehension node item names iterable condition) }
 {
-    let parts = item.height().max(iterable.height()).max(height_of(&condition));
+    let parts = item
+        .height()
+        .max(iterable.height())
+        .max(height_of(&condition));
     let height = parts.saturating_add(1);
     let item = Boxed::new(alloc, item.into_tree())?;
     let iterable = Boxed::new(alloc, iterable.into_tree())?;

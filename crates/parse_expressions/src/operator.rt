@@ -15,7 +15,12 @@ use source_trees::BinaryOp;
 use std::alloc::{AllocError, Global};
 
 /// An operator between two operands. It stands where the left one does.
-fn operation(alloc: Global, op: BinaryOp, left: Measured, right: Measured) -> Result<Measured, AllocError>
+fn operation(
+    alloc: Global,
+    op: BinaryOp,
+    left: Measured,
+    right: Measured,
+) -> Result<Measured, AllocError>
     ensures { IfOk result (λ x. x ≡ spec.operation op left right) }
 {
     let node = left.node();
@@ -70,7 +75,12 @@ impl<F: Fn(Global, &mut Cursor<'_>, u32, Form) -> Result<Measured, ParseError>> 
     }
 
     /// An operator of a rank and its right operand, if there is room.
-    fn operation_turn(&self, cursor: &mut Cursor<'_>, rank: Rank, left: Measured) -> Result<Measured, ParseError>
+    fn operation_turn(
+        &self,
+        cursor: &mut Cursor<'_>,
+        rank: Rank,
+        left: Measured,
+    ) -> Result<Measured, ParseError>
         requires { Subs self.now.room (F.pre self.now.sub) (F.post self.now.sub) }
         ensures { Reads (turn (λ _. look_up (operators rank)) (spec.fits self.now.room (spec.read self.now.room)) spec.operation (λ _. spec.read self.now.room (Operand rank)) left cursor.old) result cursor.new }
     {
@@ -84,7 +94,12 @@ impl<F: Fn(Global, &mut Cursor<'_>, u32, Form) -> Result<Measured, ParseError>> 
     }
 
     /// The operators of a rank behind a first operand.
-    fn operations(&self, cursor: &mut Cursor<'_>, rank: Rank, first: Measured) -> Result<Measured, ParseError>
+    fn operations(
+        &self,
+        cursor: &mut Cursor<'_>,
+        rank: Rank,
+        first: Measured,
+    ) -> Result<Measured, ParseError>
         requires { Subs self.now.room (F.pre self.now.sub) (F.post self.now.sub) }
         ensures { Reads (spec.operations self.now.room (spec.read self.now.room) rank first cursor.old) result cursor.new }
     {

@@ -28,7 +28,12 @@ impl<F: Fn(Global, &mut Cursor<'_>, u32, Form) -> Result<Measured, ParseError>> 
 
     /// What follows the first bound of a slice.
     #[tactic(auto, unfolding(crate::specs::Reading::slice_from))]
-    fn slice_from(&self, cursor: &mut Cursor<'_>, object: Measured, from: Option<Measured>) -> Result<Measured, ParseError>
+    fn slice_from(
+        &self,
+        cursor: &mut Cursor<'_>,
+        object: Measured,
+        from: Option<Measured>,
+    ) -> Result<Measured, ParseError>
         requires { Subs self.now.room (F.pre self.now.sub) (F.post self.now.sub) }
         ensures { Reads (spec.slice_from self.now.room (spec.read self.now.room) object from cursor.old) result cursor.new }
     {
@@ -42,7 +47,12 @@ impl<F: Fn(Global, &mut Cursor<'_>, u32, Form) -> Result<Measured, ParseError>> 
 
     /// What follows an index.
     #[tactic(auto, unfolding(crate::specs::Reading::index_at))]
-    fn index_at(&self, cursor: &mut Cursor<'_>, object: Measured, place: Option<Measured>) -> Result<Measured, ParseError>
+    fn index_at(
+        &self,
+        cursor: &mut Cursor<'_>,
+        object: Measured,
+        place: Option<Measured>,
+    ) -> Result<Measured, ParseError>
         ensures { Reads (spec.index_at self.now.room (spec.read self.now.room) object place cursor.old) result cursor.new }
     {
         let Some(place) = place else {
@@ -71,7 +81,12 @@ impl<F: Fn(Global, &mut Cursor<'_>, u32, Form) -> Result<Measured, ParseError>> 
 
     /// A field, or a call of a method.
     #[tactic(auto, unfolding(crate::specs::Reading::field_rest))]
-    fn field_rest(&self, cursor: &mut Cursor<'_>, object: Measured, name: Spelling) -> Result<Measured, ParseError>
+    fn field_rest(
+        &self,
+        cursor: &mut Cursor<'_>,
+        object: Measured,
+        name: Spelling,
+    ) -> Result<Measured, ParseError>
         requires { Subs self.now.room (F.pre self.now.sub) (F.post self.now.sub) }
         ensures { Reads (spec.field_rest self.now.room (spec.read self.now.room) object name cursor.old) result cursor.new }
     {

@@ -1,4 +1,5 @@
 ghost use Rattle.std.specs.Prelude.{◌≡◌};
+ghost use Rattle.parse_expressions.specs.declared.form.Form.TheVariants.{Whole};
 ghost use Rattle.parse_expressions.specs.Forms.{opening};
 ghost use Rattle.parse_expressions.specs.Reading as spec;
 ghost use Rattle.parse_expressions.specs.Code.{Reads};
@@ -22,7 +23,12 @@ fn opening(form: Form) -> u8
 
 /// An expression of a form that is at most `room` high. Where there is no room at all, what begins one is too deep.
 #[tactic(auto, unfolding(crate::specs::Reading::read))]
-pub fn read(alloc: Global, cursor: &mut Cursor<'_>, room: u32, form: Form) -> Result<Measured, ParseError>
+pub fn read(
+    alloc: Global,
+    cursor: &mut Cursor<'_>,
+    room: u32,
+    form: Form,
+) -> Result<Measured, ParseError>
     ensures { Reads (spec.read room form cursor.old) result cursor.new }
 {
     if room == 0 {
@@ -37,4 +43,15 @@ pub fn read(alloc: Global, cursor: &mut Cursor<'_>, room: u32, form: Form) -> Re
         sub: read,
     };
     reader.at_form(cursor, form)
+}
+
+/// An expression that is at most `room` high. The cursor stands after it, or at the token that is refused.
+pub fn read_expression(
+    alloc: Global,
+    cursor: &mut Cursor<'_>,
+    room: u32,
+) -> Result<Measured, ParseError>
+    ensures { Reads (spec.read room Whole cursor.old) result cursor.new }
+{
+    read(alloc, cursor, room, Form::Whole)
 }

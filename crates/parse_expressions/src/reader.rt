@@ -9,9 +9,9 @@ ghost use Rattle.parse_expressions.specs.Forms.{begins};
 ghost use Rattle.parse_expressions.specs.Reading as spec;
 ghost use Rattle.parse_expressions.specs.Code.{Reads, Subs};
 
-use crate::measured::{Measured, Row};
 use crate::cursor::is_op;
 use crate::leaf::begins;
+use crate::measured::{Measured, Row};
 use crate::{Cursor, Form, ParseError};
 use std::alloc::Global;
 
@@ -98,7 +98,12 @@ impl<F: Fn(Global, &mut Cursor<'_>, u32, Form) -> Result<Measured, ParseError>> 
     }
 
     /// The items after those that stand.
-    pub fn rest(&self, cursor: &mut Cursor<'_>, first: Row, limited: bool) -> Result<OpenRow, ParseError>
+    pub fn rest(
+        &self,
+        cursor: &mut Cursor<'_>,
+        first: Row,
+        limited: bool,
+    ) -> Result<OpenRow, ParseError>
         requires { Subs self.now.room (F.pre self.now.sub) (F.post self.now.sub) }
         ensures { Reads (rest_of is_comma (begins 3) (spec.limit_of limited) (spec.read self.now.room Whole) first cursor.old) result cursor.new }
     {
