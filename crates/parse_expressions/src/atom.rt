@@ -31,7 +31,7 @@ fn round_tree(alloc: Global, open: &Token, row: Row, more: bool) -> Result<Measu
 impl<F: Fn(Global, &mut Cursor<'_>, u32, Form) -> Result<Measured, ParseError>> Expressions<F> {
     /// A name, or a call of it.
     #[tactic(auto, unfolding(crate::specs::Reading::named_rest))]
-    fn named_rest(&self, cursor: &mut Cursor<'_>, name: Name) -> Result<Measured, ParseError>
+    pub fn named_rest(&self, cursor: &mut Cursor<'_>, name: Name) -> Result<Measured, ParseError>
         requires { Subs self.now.room (F.pre self.now.sub) (F.post self.now.sub) }
         ensures { Reads (spec.named_rest self.now.room (spec.read self.now.room) name cursor.old) result cursor.new }
     {

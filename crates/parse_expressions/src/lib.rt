@@ -18,6 +18,7 @@ mod postfix;
 mod read;
 mod reader;
 mod start;
+mod target;
 #[cfg(test)]
 mod tests;
 mod types;
@@ -29,4 +30,5 @@ pub use laws::{law_of_expressions, law_of_types};
 pub use measured::{Comparisons, Measured, Row};
 pub use read::read_expression;
 pub use start::{Start, TypeStart, start_of, type_start_of};
+pub use target::read_target;
 pub use types::read_type;

@@ -7,6 +7,7 @@ ghost use Rattle.parse_expressions.specs.Reading.{heights};
 ghost use Rattle.grammar_rules.specs.Levels.{joined};
 ghost use Rattle.grammar_rules.specs.Expressions.{node_of};
 ghost use Rattle.parse_expressions.specs.Reading as spec;
+ghost use Rattle.parse_expressions.specs.Targets.{is_pointed};
 
 use codon_base::{Spelling, Text};
 use grammar_rules::Junction;
@@ -127,6 +128,19 @@ impl Measured {
             Expr::Index(node, _, _) => *node,
             Expr::Slice(node, _, _, _) => *node,
             Expr::Field(node, _, _) => *node,
+        }
+    }
+
+    /// Whether it is a name, an index or a field, to which an assignment may write.
+    #[tactic(auto, unfolding(crate::specs::Targets::target_of))]
+    pub fn is_target(&self) -> bool
+        ensures { result ≡ is_pointed self.now }
+    {
+        match &self.tree {
+            Expr::Name(_, _) => true,
+            Expr::Index(_, _, _) => true,
+            Expr::Field(_, _, _) => true,
+            _ => false,
         }
     }
 
@@ -531,7 +545,7 @@ pub fn slice(
 }
 
 /// The height of a tree that may be absent, 0 where it is.
-fn height_of(tree: &Option<Measured>) -> usize
+pub fn height_of(tree: &Option<Measured>) -> usize
     ensures { result ≡ min (highest (heights tree.now)) usize.MAX }
 {
     match tree {

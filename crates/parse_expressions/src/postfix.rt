@@ -15,7 +15,7 @@ use std::alloc::Global;
 impl<F: Fn(Global, &mut Cursor<'_>, u32, Form) -> Result<Measured, ParseError>> Expressions<F> {
     /// An expression, if one begins here.
     #[tactic(auto, unfolding(crate::specs::Reading::optional))]
-    fn optional(&self, cursor: &mut Cursor<'_>) -> Result<Option<Measured>, ParseError>
+    pub fn optional(&self, cursor: &mut Cursor<'_>) -> Result<Option<Measured>, ParseError>
         requires { Subs self.now.room (F.pre self.now.sub) (F.post self.now.sub) }
         ensures { Reads (spec.optional self.now.room (spec.read self.now.room) cursor.old) result cursor.new }
     {
@@ -28,7 +28,7 @@ impl<F: Fn(Global, &mut Cursor<'_>, u32, Form) -> Result<Measured, ParseError>> 
 
     /// What follows the first bound of a slice.
     #[tactic(auto, unfolding(crate::specs::Reading::slice_from))]
-    fn slice_from(
+    pub fn slice_from(
         &self,
         cursor: &mut Cursor<'_>,
         object: Measured,
@@ -47,7 +47,7 @@ impl<F: Fn(Global, &mut Cursor<'_>, u32, Form) -> Result<Measured, ParseError>> 
 
     /// What follows an index.
     #[tactic(auto, unfolding(crate::specs::Reading::index_at))]
-    fn index_at(
+    pub fn index_at(
         &self,
         cursor: &mut Cursor<'_>,
         object: Measured,
@@ -105,7 +105,7 @@ impl<F: Fn(Global, &mut Cursor<'_>, u32, Form) -> Result<Measured, ParseError>> 
 
     /// A dot and what follows it.
     #[tactic(auto, unfolding(crate::specs::Reading::dotted))]
-    fn dotted(&self, cursor: &mut Cursor<'_>, object: Measured) -> Result<Measured, ParseError>
+    pub fn dotted(&self, cursor: &mut Cursor<'_>, object: Measured) -> Result<Measured, ParseError>
         requires { Subs self.now.room (F.pre self.now.sub) (F.post self.now.sub) }
         ensures { Reads (spec.dotted self.now.room (spec.read self.now.room) object cursor.old) result cursor.new }
     {
