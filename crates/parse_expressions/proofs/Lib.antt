@@ -16,4 +16,6 @@ pub mod Wholes
 pub mod TypeHeights
 pub mod Types
 pub mod TypeLaw
+pub mod Pointed
+pub mod TargetLaw
 pub mod Counting

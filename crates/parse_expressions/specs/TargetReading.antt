@@ -1,13 +1,14 @@
 -- The parser of targets, as functions on lists of tokens. A target is read as a postfix form. What stands in it and is no
 -- target itself has something behind it, and so is at most as high as a part.
-use Rattle.std.specs.Prelude.{ℕ, zero, suc, Bool, cond, ◌&&◌, nat_le, List, length, Option}
+use Rattle.std.specs.Prelude.{ℕ, zero, suc, Bool, cond, ◌&&◌, nat_le, List, length, Option, Some, None}
 use Rattle.indent_lexer.specs.declared.token.Token.{Token}
 use Rattle.source_trees.specs.declared.expression.Expr.{Expr}
 use Rattle.source_trees.specs.Heights.{height_of_expr, highest}
 use Rattle.parse_laws.specs.declared.cause.Cause.TheVariants.{Unexpected, TooDeep}
 use Rattle.parse_laws.specs.Parser.{Parser, Parsed, Stopped, refuse, choose, within, expect, take_by, has, repeat, ◌>>=◌}
+use Rattle.parse_expressions.specs.declared.form.Form.TheVariants as form
 use Rattle.parse_expressions.specs.Forms.{begins}
-use Rattle.parse_expressions.specs.Reading.{heights, is_square, is_dot, is_colon, is_trailer, plain_at, named_rest, atom, dotted, optional, slice_from, index_at, read}
+use Rattle.parse_expressions.specs.Reading.{heights, is_square, is_dot, is_colon, is_trailer, plain_at, named_rest, atom, dotted, slice_from, index_at, read}
 use Rattle.parse_expressions.specs.Targets.{is_pointed}
 
 -- what begins a form is too deep, and any other token is refused
@@ -23,11 +24,13 @@ target_atom (suc low) = atom low (read low)
 abbrev pub slice_fits : ℕ → Expr → Option Expr → Bool
 slice_fits low x o = nat_le (height_of_expr x) low && nat_le (highest (heights o)) low
 
--- an index, which is a target, or a slice, which is none
+-- What follows the bound, if there is one: a slice, which is no target, or an index, which is one.
+unfoldable pub target_bound : ℕ → Expr → Option Expr → Parser Token Expr
+target_bound low x o = choose is_colon (within (slice_fits low x o) (slice_from low (read low) x o)) (index_at (suc low) (read (suc low)) x o)
+
 unfoldable pub target_indexed : ℕ → Expr → Parser Token Expr
 target_indexed low x =
-    expect is_square >>= λ _. optional (suc low) (read (suc low)) >>= λ o.
-    choose is_colon (within (slice_fits low x o) (slice_from low (read low) x o)) (index_at (suc low) (read (suc low)) x o)
+    expect is_square >>= λ _. choose (begins 3) (read (suc low) form.Whole >>= λ y. target_bound low x (Some y)) (target_bound low x None)
 
 abbrev pub target_after : ℕ → Expr → Parser Token Expr
 target_after zero x = refuse
@@ -47,4 +50,4 @@ pointed x = λ ts. cond (is_pointed x) (Parsed x ts) (Stopped Unexpected ts)
 -- the parser of targets that are at most so high
 unfoldable pub read_target : ℕ → Parser Token Expr
 read_target zero = too_deep 1
-read_target (suc room) = target_atom room >>= target_trailers room >>= pointed
+read_target (suc room) = target_atom room >>= λ x. target_trailers room x >>= pointed

@@ -16,15 +16,15 @@ use std::alloc::{AllocError, Global};
 
 /// One expression in brackets, or a tuple where a comma stands.
 #[tactic(auto, using(crate::proofs::Counting::round_many))]
-fn round_tree(alloc: Global, open: &Token, row: Row, more: bool) -> Result<Measured, AllocError>
-    ensures { IfOk result (λ x. x ≡ spec.round_tree open.now (row, more)) }
+fn round_tree(alloc: Global, first: &Token, row: Row, more: bool) -> Result<Measured, AllocError>
+    ensures { IfOk result (λ x. x ≡ spec.round_tree first.now (row, more)) }
 {
     if more {
-        return Ok(measured::tuple(node_at(open), Commas::Bracketed, row));
+        return Ok(measured::tuple(node_at(first), Commas::Bracketed, row));
     }
     match row.single() {
-        Ok(inner) => Ok(measured::bracketed(alloc, node_at(open), inner)?),
-        Err(row) => Ok(measured::tuple(node_at(open), Commas::Bracketed, row)),
+        Ok(inner) => Ok(measured::bracketed(alloc, node_at(first), inner)?),
+        Err(row) => Ok(measured::tuple(node_at(first), Commas::Bracketed, row)),
     }
 }
 
@@ -54,10 +54,10 @@ impl<F: Fn(Global, &mut Cursor<'_>, u32, Form) -> Result<Measured, ParseError>> 
         if self.room < 1 {
             return Err(ParseError::Refused(Cause::TooDeep));
         }
-        let open = cursor.expect_op(b"(".as_slice())?;
+        let first = cursor.expect_op(b"(".as_slice())?;
         let (row, more) = self.row(cursor, true)?;
         cursor.expect_op(b")".as_slice())?;
-        let tree = round_tree(self.alloc, open, row, more)?;
+        let tree = round_tree(self.alloc, first, row, more)?;
         Ok(tree)
     }
 
@@ -80,11 +80,11 @@ impl<F: Fn(Global, &mut Cursor<'_>, u32, Form) -> Result<Measured, ParseError>> 
     fn comprehension(
         &self,
         cursor: &mut Cursor<'_>,
-        open: &Token,
+        first: &Token,
         item: Measured,
     ) -> Result<Measured, ParseError>
         requires { Subs self.now.room (F.pre self.now.sub) (F.post self.now.sub) }
-        ensures { Reads (spec.comprehension self.now.room (spec.read self.now.room) open.now item cursor.old) result cursor.new }
+        ensures { Reads (spec.comprehension self.now.room (spec.read self.now.room) first.now item cursor.old) result cursor.new }
     {
         cursor.expect_keyword(b"for".as_slice())?;
         let names = cursor.names(self.alloc)?;
@@ -94,7 +94,7 @@ impl<F: Fn(Global, &mut Cursor<'_>, u32, Form) -> Result<Measured, ParseError>> 
         cursor.expect_op(b"]".as_slice())?;
         let tree = measured::comprehension(
             self.alloc,
-            node_at(open),
+            node_at(first),
             item,
             names,
             iterable,
@@ -108,16 +108,16 @@ impl<F: Fn(Global, &mut Cursor<'_>, u32, Form) -> Result<Measured, ParseError>> 
     fn items(
         &self,
         cursor: &mut Cursor<'_>,
-        open: &Token,
+        first: &Token,
         item: Measured,
     ) -> Result<Measured, ParseError>
         requires { Subs self.now.room (F.pre self.now.sub) (F.post self.now.sub) }
-        ensures { Reads (spec.items self.now.room (spec.read self.now.room) open.now item cursor.old) result cursor.new }
+        ensures { Reads (spec.items self.now.room (spec.read self.now.room) first.now item cursor.old) result cursor.new }
     {
-        let first = Row::new(self.alloc).push(item)?;
-        let (row, _more) = self.rest(cursor, first, false)?;
+        let items = Row::new(self.alloc).push(item)?;
+        let (row, _more) = self.rest(cursor, items, false)?;
         cursor.expect_op(b"]".as_slice())?;
-        Ok(measured::list(node_at(open), row))
+        Ok(measured::list(node_at(first), row))
     }
 
     /// What stands in square brackets.
@@ -126,16 +126,16 @@ impl<F: Fn(Global, &mut Cursor<'_>, u32, Form) -> Result<Measured, ParseError>> 
         requires { Subs self.now.room (F.pre self.now.sub) (F.post self.now.sub) }
         ensures { Reads (spec.square self.now.room (spec.read self.now.room) cursor.old) result cursor.new }
     {
-        let open = cursor.expect_op(b"[".as_slice())?;
+        let first = cursor.expect_op(b"[".as_slice())?;
         if cursor.sees_op(b"]".as_slice()) {
             cursor.expect_op(b"]".as_slice())?;
-            return Ok(measured::list(node_at(open), Row::new(self.alloc)));
+            return Ok(measured::list(node_at(first), Row::new(self.alloc)));
         }
         let item = self.sub(cursor, Form::Whole)?;
         if cursor.sees_keyword(b"for".as_slice()) {
-            self.comprehension(cursor, open, item)
+            self.comprehension(cursor, first, item)
         } else {
-            self.items(cursor, open, item)
+            self.items(cursor, first, item)
         }
     }
 

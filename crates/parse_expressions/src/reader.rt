@@ -1,5 +1,4 @@
-ghost use Rattle.std.specs.Prelude.{◌≡◌, ◌≤◌, ◌∷◌, ◌++◌, ◌&&◌, cond, [], IfOk};
-ghost use Rattle.source_trees.specs.Heights.{height_of_expr, highest};
+ghost use Rattle.std.specs.Prelude.{◌≡◌, ◌∷◌, ◌++◌, ◌&&◌, cond, []};
 ghost use Rattle.parse_laws.specs.Parser.{sees};
 ghost use Rattle.parse_laws.specs.Parser.{row_turn};
 ghost use Rattle.parse_laws.specs.Loops.{row_test, starts_in, rest_of, is_several};
@@ -77,8 +76,7 @@ impl<F: Fn(Global, &mut Cursor<'_>, u32, Form) -> Result<Measured, ParseError>> 
     /// A part of the tree.
     pub fn sub(&self, cursor: &mut Cursor<'_>, form: Form) -> Result<Measured, ParseError>
         requires { Subs self.now.room (F.pre self.now.sub) (F.post self.now.sub) }
-        ensures reads { Reads (spec.read self.now.room form cursor.old) result cursor.new }
-        ensures low { IfOk result (λ x. height_of_expr x ≤ self.now.room) }
+        ensures { Reads (spec.read self.now.room form cursor.old) result cursor.new }
     {
         (self.sub)(self.alloc, cursor, self.room, form)
     }

@@ -9,7 +9,7 @@ use crate::cursor::is_word;
 use crate::measured::{Measured, height_of};
 use crate::read::read;
 use crate::reader::Expressions;
-use crate::{Cursor, ParseError};
+use crate::{Cursor, Form, ParseError};
 use indent_lexer::TokenKind;
 use parse_laws::Cause;
 use std::alloc::Global;
@@ -100,7 +100,30 @@ fn target_slice(
     .slice_from(cursor, object, from)
 }
 
-/// An index, whose place may be as high as a part, or a slice, whose bounds are lower.
+/// What follows the bound in square brackets, if there is one: a slice, or an index, whose place may be as high as a part.
+#[tactic(auto, unfolding(crate::specs::TargetReading::target_bound))]
+fn target_bound(
+    alloc: Global,
+    cursor: &mut Cursor<'_>,
+    room: u32,
+    object: Measured,
+    bound: Option<Measured>,
+) -> Result<Measured, ParseError>
+    requires { 0 < room }
+    ensures { Reads (spec.target_bound (room - 1) object bound cursor.old) result cursor.new }
+{
+    if cursor.sees_op(b":".as_slice()) {
+        return target_slice(alloc, cursor, room - 1, object, bound);
+    }
+    Expressions {
+        alloc,
+        room,
+        sub: read,
+    }
+    .index_at(cursor, object, bound)
+}
+
+/// An index or a slice.
 #[tactic(auto, unfolding(crate::specs::TargetReading::target_indexed))]
 fn target_indexed(
     alloc: Global,
@@ -111,18 +134,12 @@ fn target_indexed(
     requires { 0 < room }
     ensures { Reads (spec.target_indexed (room - 1) object cursor.old) result cursor.new }
 {
-    let reader = Expressions {
-        alloc,
-        room,
-        sub: read,
-    };
     cursor.expect_op(b"[".as_slice())?;
-    let place = reader.optional(cursor)?;
-    if cursor.sees_op(b":".as_slice()) {
-        target_slice(alloc, cursor, room - 1, object, place)
-    } else {
-        reader.index_at(cursor, object, place)
+    if !cursor.begins(3) {
+        return target_bound(alloc, cursor, room, object, None);
     }
+    let place = read(alloc, cursor, room, Form::Whole)?;
+    target_bound(alloc, cursor, room, object, Some(place))
 }
 
 /// A field or a method's call, which is a part.
