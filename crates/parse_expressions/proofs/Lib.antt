@@ -18,4 +18,6 @@ pub mod Types
 pub mod TypeLaw
 pub mod Pointed
 pub mod TargetLaw
+pub mod Rooms
+pub mod Beside
 pub mod Counting

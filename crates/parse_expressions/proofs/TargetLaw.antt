@@ -166,7 +166,7 @@ atom_fits zero ts =
     }) ts h _ (named_law 0 (reading.read 0) (read_law 0) ts))
     (λ h. choose_law IsAtom (Limited IsAtom (Fit 0)) atom_carries (begins 1) ts (Stopped TooDeep ts) (Stopped Unexpected ts)
     (λ i. deep_law IsAtom (Limited IsAtom (Fit 0)) atom_carries (has plain_at) false (λ a v s k free j. no_bare a v s k.0 k.1 j) ts h (begins_at (begins 1) IsAtom atom_at ts i))
-    (λ i. refuse_law IsAtom (Limited IsAtom (Fit 0)) atom_carries (begins 1) false (λ a v s k free j. let p = opens form.Postfix a v (g.atom a v k) s in cc) ts i))
+    (λ i. refuse_law IsAtom (Limited IsAtom (Fit 0)) atom_carries (begins 1) false (λ a v s k free j. let p : sees (begins 1) (a ++ s) ≡ true = opens form.Postfix a v (g.atom a v k) s in cc) ts i))
 atom_fits (suc low) ts =
     rename_law IsAtom (Limited IsAtom (Low (suc low))) IsAtom (Limited IsAtom (Fit (suc low))) atom_carries
     (λ a v k. k) (λ a v k. (k.0, low_fit (suc low) v k.1)) (λ a v k. k) (λ a v k. (k.0, atom_low low a v k.0 k.1)) ts _
@@ -517,7 +517,7 @@ no_room_law ts =
     (λ h. deep_law IsPointed (Limited IsPointed (Low 0)) (carries 1) (begins 1) true
     (λ a v s k free i. let p = positive v in let q : height_of_expr v ≤ 0 = k.1 in absurd (omega arith)) ts h (begins_at (begins 1) IsPointed pointed_viable ts h))
     (λ h. refuse_law IsPointed (Limited IsPointed (Low 0)) (carries 1) (begins 1) false
-    (λ a v s k free i. let p = opens form.Postfix a v k.0 s in cc) ts h)
+    (λ a v s k free i. let p : sees (begins 1) (a ++ s) ≡ true = opens form.Postfix a v k.0 s in cc) ts h)
 
 -- The parser of targets is exact within every limit of height.
 pub target_law : (room : ℕ) (ts : List Token) → Law IsPointed (Limited IsPointed (Low room)) (carries 1) ts (read_target room ts)

@@ -3,4 +3,5 @@ pub mod Reading
 pub mod TypeReading
 pub mod Targets
 pub mod TargetReading
+pub mod Splits
 pub mod Code

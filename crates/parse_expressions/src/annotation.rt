@@ -266,7 +266,7 @@ impl<F: Fn(Global, &mut Cursor<'_>, u32) -> Result<Annotation, ParseError>> Type
 }
 
 /// A type that is at most `room` high. Where there is no room at all, what begins one is too deep.
-#[tactic(auto, unfolding(crate::specs::TypeReading::read_type))]
+#[tactic(auto, using(crate::proofs::Rooms::type_none, crate::proofs::Rooms::type_some))]
 pub fn read_type(
     alloc: Global,
     cursor: &mut Cursor<'_>,

@@ -1,6 +1,7 @@
 ghost use Rattle.std.specs.Prelude.{◌≡◌, IfOk};
 ghost use Rattle.parse_laws.specs.Parser.{and_then, take_by};
 ghost use Rattle.parse_expressions.specs.Reading as spec;
+ghost use Rattle.parse_expressions.specs.Splits.{filtered, iterated};
 ghost use Rattle.parse_expressions.specs.Code.{Reads, Subs};
 
 use crate::cursor::node_at;
@@ -75,8 +76,45 @@ impl<F: Fn(Global, &mut Cursor<'_>, u32, Form) -> Result<Measured, ParseError>> 
         Ok(Some(condition))
     }
 
+    /// What follows the iterable of a comprehension.
+    #[tactic(auto, unfolding(crate::specs::Splits::filtered))]
+    fn filtered(
+        &self,
+        cursor: &mut Cursor<'_>,
+        first: &Token,
+        item: Measured,
+        names: LoopNames,
+        iterable: Measured,
+    ) -> Result<Measured, ParseError>
+        requires { Subs self.now.room (F.pre self.now.sub) (F.post self.now.sub) }
+        ensures { Reads (filtered self.now.room (spec.read self.now.room) first.now item names iterable cursor.old) result cursor.new }
+    {
+        let condition = self.filter(cursor)?;
+        cursor.expect_op(b"]".as_slice())?;
+        let node = node_at(first);
+        let tree = measured::comprehension(self.alloc, node, item, names, iterable, condition)?;
+        Ok(tree)
+    }
+
+    /// What follows the names of a comprehension.
+    #[tactic(auto, unfolding(crate::specs::Splits::iterated))]
+    fn iterated(
+        &self,
+        cursor: &mut Cursor<'_>,
+        first: &Token,
+        item: Measured,
+        names: LoopNames,
+    ) -> Result<Measured, ParseError>
+        requires { Subs self.now.room (F.pre self.now.sub) (F.post self.now.sub) }
+        ensures { Reads (iterated self.now.room (spec.read self.now.room) first.now item names cursor.old) result cursor.new }
+    {
+        cursor.expect_keyword(b"in".as_slice())?;
+        let iterable = self.sub(cursor, Form::Joined(Junction::Or))?;
+        self.filtered(cursor, first, item, names, iterable)
+    }
+
     /// What follows the item of a comprehension.
-    #[tactic(auto, unfolding(crate::specs::Reading::comprehension))]
+    #[tactic(auto, unfolding(crate::specs::Reading::comprehension, crate::specs::Splits::iterated, crate::specs::Splits::filtered))]
     fn comprehension(
         &self,
         cursor: &mut Cursor<'_>,
@@ -88,19 +126,7 @@ impl<F: Fn(Global, &mut Cursor<'_>, u32, Form) -> Result<Measured, ParseError>> 
     {
         cursor.expect_keyword(b"for".as_slice())?;
         let names = cursor.names(self.alloc)?;
-        cursor.expect_keyword(b"in".as_slice())?;
-        let iterable = self.sub(cursor, Form::Joined(Junction::Or))?;
-        let condition = self.filter(cursor)?;
-        cursor.expect_op(b"]".as_slice())?;
-        let tree = measured::comprehension(
-            self.alloc,
-            node_at(first),
-            item,
-            names,
-            iterable,
-            condition,
-        )?;
-        Ok(tree)
+        self.iterated(cursor, first, item, names)
     }
 
     /// What follows the first item of a list.

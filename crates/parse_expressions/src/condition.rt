@@ -1,5 +1,5 @@
 ghost use Rattle.std.specs.Prelude.{◌≡◌, ◌∷◌, ◌++◌, [], IfOk};
-ghost use Rattle.parse_laws.specs.Parser.{within, pure, ◌>>=◌};
+ghost use Rattle.parse_laws.specs.Parser.{within, pure, and_then};
 ghost use Rattle.grammar_rules.specs.Levels.{word_of};
 ghost use Rattle.grammar_rules.specs.Words.{is_keyword};
 ghost use Rattle.parse_expressions.specs.Reading as spec;
@@ -84,7 +84,7 @@ impl<F: Fn(Global, &mut Cursor<'_>, u32, Form) -> Result<Measured, ParseError>> 
         beside: Compared,
     ) -> Result<Compared, ParseError>
         requires { Subs self.now.room (F.pre self.now.sub) (F.post self.now.sub) }
-        ensures { Reads (within (spec.fits_more self.now.room (spec.read self.now.room) beside) (spec.comparison self.now.room (spec.read self.now.room) >>= λ y. pure (beside.0, beside.1 ++ y ∷ [])) cursor.old) result cursor.new }
+        ensures { Reads (within (spec.fits_more self.now.room (spec.read self.now.room) beside) (λ ts. and_then (spec.comparison self.now.room (spec.read self.now.room) ts) (λ y. pure (beside.0, beside.1 ++ y ∷ []))) cursor.old) result cursor.new }
     {
         let (first, comparisons) = beside;
         if comparisons.is_empty() && first.height() > self.room as usize {
@@ -150,7 +150,7 @@ impl<F: Fn(Global, &mut Cursor<'_>, u32, Form) -> Result<Measured, ParseError>> 
         beside: Operands,
     ) -> Result<Operands, ParseError>
         requires { Subs self.now.room (F.pre self.now.sub) (F.post self.now.sub) }
-        ensures { Reads (within (spec.fits_more self.now.room (spec.read self.now.room) beside) (spec.joint_after self.now.room (spec.read self.now.room) junction >>= λ y. pure (beside.0, beside.1 ++ y ∷ [])) cursor.old) result cursor.new }
+        ensures { Reads (within (spec.fits_more self.now.room (spec.read self.now.room) beside) (λ ts. and_then (spec.joint_after self.now.room (spec.read self.now.room) junction ts) (λ y. pure (beside.0, beside.1 ++ y ∷ []))) cursor.old) result cursor.new }
     {
         let (first, row) = beside;
         if row.len() == 0 && first.height() > self.room as usize {

@@ -22,7 +22,7 @@ fn opening(form: Form) -> u8
 }
 
 /// An expression of a form that is at most `room` high. Where there is no room at all, what begins one is too deep.
-#[tactic(auto, unfolding(crate::specs::Reading::read))]
+#[tactic(auto, using(crate::proofs::Rooms::read_none, crate::proofs::Rooms::read_some))]
 pub fn read(
     alloc: Global,
     cursor: &mut Cursor<'_>,

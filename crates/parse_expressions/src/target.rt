@@ -57,7 +57,7 @@ fn bare_atom(alloc: Global, cursor: &mut Cursor<'_>) -> Result<Measured, ParseEr
 }
 
 /// What a target begins with.
-#[tactic(auto, unfolding(crate::specs::TargetReading::target_atom))]
+#[tactic(auto, using(crate::proofs::Rooms::atom_none, crate::proofs::Rooms::atom_some))]
 fn target_atom(alloc: Global, cursor: &mut Cursor<'_>, room: u32) -> Result<Measured, ParseError>
     ensures { Reads (spec.target_atom room cursor.old) result cursor.new }
 {
@@ -160,7 +160,7 @@ fn target_dotted(
 }
 
 /// A field, a method's call, an index or a slice.
-#[tactic(auto, unfolding(crate::specs::TargetReading::target_trailer))]
+#[tactic(auto, unfolding(crate::specs::TargetReading::target_trailer), using(crate::proofs::Rooms::after_none, crate::proofs::Rooms::after_some))]
 fn target_trailer(
     alloc: Global,
     cursor: &mut Cursor<'_>,
@@ -213,7 +213,7 @@ fn pointed(cursor: &Cursor<'_>, tree: Measured) -> Result<Measured, ParseError>
 }
 
 /// A name, an index or a field that is at most `room` high. The cursor stands after it, or at the token that is refused.
-#[tactic(auto, unfolding(crate::specs::TargetReading::read_target))]
+#[tactic(auto, using(crate::proofs::Rooms::target_none, crate::proofs::Rooms::target_some))]
 pub fn read_target(
     alloc: Global,
     cursor: &mut Cursor<'_>,
