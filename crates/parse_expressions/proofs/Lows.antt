@@ -1,5 +1,5 @@
 -- Lists of trees within a limit of height.
-use Rattle.std.proofs.Common.{◌≡◌, ℕ, ◌≤◌, max, nat_le, true, false, List, [], ◌∷◌, ◌++◌, map, sym, subst, Option, Some, None, codes, arith}
+use Rattle.std.proofs.Common.{◌≡◌, ℕ, ◌+◌, ◌≤◌, max, nat_le, true, false, List, [], ◌∷◌, ◌++◌, map, sym, subst, Option, Some, None, codes, arith}
 use Rattle.std.proofs.lemmas.Bool.{le-leb, leb-true}
 use Rattle.source_trees.specs.declared.node.Node.{Node}
 use Rattle.source_trees.specs.declared.node.Name.{Name}

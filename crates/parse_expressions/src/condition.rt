@@ -30,6 +30,7 @@ fn word_of(junction: Junction) -> &'static [u8]
 }
 
 /// The first operand alone, or the node of several.
+#[tactic(auto, using(crate::proofs::Beside::joined_none, crate::proofs::Beside::joined_some))]
 fn join_all(
     alloc: Global,
     junction: Junction,
@@ -46,6 +47,7 @@ fn join_all(
     Ok(measured::joined(junction, node, all))
 }
 
+#[tactic(auto, using(crate::proofs::Beside::compared_none, crate::proofs::Beside::compared_some))]
 fn compare_all(
     alloc: Global,
     first: Measured,
@@ -77,7 +79,7 @@ impl<'a> Cursor<'a> {
 
 impl<F: Fn(Global, &mut Cursor<'_>, u32, Form) -> Result<Measured, ParseError>> Expressions<F> {
     /// A comparator and its right operand beside those that stand, if there is room.
-    #[tactic(auto, unfolding(crate::specs::Reading::comparison))]
+    #[tactic(auto, unfolding(crate::specs::Reading::comparison), using(crate::proofs::Beside::first_fits, crate::proofs::Beside::next_fits))]
     fn comparison_turn(
         &self,
         cursor: &mut Cursor<'_>,
@@ -142,7 +144,7 @@ impl<F: Fn(Global, &mut Cursor<'_>, u32, Form) -> Result<Measured, ParseError>> 
     }
 
     /// The word of a junction and an operand beside those that stand, if there is room.
-    #[tactic(auto, unfolding(crate::specs::Reading::joint_after))]
+    #[tactic(auto, unfolding(crate::specs::Reading::joint_after), using(crate::proofs::Beside::first_joint_fits, crate::proofs::Beside::next_joint_fits))]
     fn joint_turn(
         &self,
         cursor: &mut Cursor<'_>,
