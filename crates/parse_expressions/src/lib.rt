@@ -6,18 +6,29 @@
 //! the leaves, texts and names, and builders of trees. It knows nothing of statements.
 #![tactic(auto)]
 
+mod annotation;
+mod atom;
+mod condition;
 mod cursor;
 mod form;
 mod laws;
 mod leaf;
 mod measured;
+mod operator;
+mod postfix;
+mod read;
+mod reader;
 mod start;
+mod target;
 #[cfg(test)]
 mod tests;
 mod word;
 
+pub use annotation::read_type;
 pub use cursor::{Cursor, ParseError, is_keyword, is_op, is_word, node_at};
 pub use form::Form;
-pub use laws::{law_of_expressions, law_of_types};
+pub use laws::{law_of_expressions, law_of_targets, law_of_types};
 pub use measured::{Comparisons, Measured, Row};
+pub use read::read_expression;
 pub use start::{Start, TypeStart, start_of, type_start_of};
+pub use target::read_target;
