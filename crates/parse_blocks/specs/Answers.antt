@@ -1,5 +1,7 @@
 -- What a list of tokens has: a tree within the limit of height, or the place of its first bad token.
 use Rattle.std.specs.Prelude.{◌≡◌, ℕ, true, List, [], ◌∷◌, ◌++◌}
+use Rattle.codon_base.specs.declared.memory.Or.{Or}
+use Rattle.codon_base.specs.declared.memory.Or.TheVariants.{No, Memory}
 use Rattle.indent_lexer.specs.declared.token.Token.{Token}
 use Rattle.source_trees.specs.declared.item.Module.{Module}
 use Rattle.parse_laws.specs.Language.{Language}
@@ -22,6 +24,11 @@ HasTree ts = (m : Module) × DerivesLow ts m
 
 abbrev pub HasPlace : List Token → Type 0
 HasPlace ts = (p : ParseRefusal) × IsParsePlace ts p
+
+-- why the parser gives up: want of memory says nothing
+abbrev pub IsPlaceOf : List Token → Or ParseRefusal → Type 0
+IsPlaceOf ts (No p) = IsParsePlace ts p
+IsPlaceOf ts Memory = Unit {0}
 
 -- a tree of the list, with its numbers
 abbrev pub HasNumberedTree : List Token → Type 0

@@ -1,12 +1,12 @@
-ghost use Rattle.std.specs.Prelude.{◌≡◌, ◌∷◌, ◌++◌, [], ◌≤◌};
-ghost use Rattle.parse_laws.specs.Parser.{sees, and_then, pure};
+ghost use Rattle.std.specs.Prelude.{◌≡◌, ◌-◌, ◌∷◌, ◌++◌, [], IfOk, nat_le};
+ghost use Rattle.parse_laws.specs.Parser.{sees, and_then, pure, within};
 ghost use Rattle.grammar_rules.specs.Words.{node_at};
 ghost use Rattle.parse_expressions.specs.Code.{Reads};
 ghost use Rattle.parse_statements.specs.Code.{readers};
 ghost use Rattle.parse_statements.specs.Many.{many};
 ghost use Rattle.parse_blocks.specs.Gather.{gather};
 ghost use Rattle.parse_blocks.specs.Blocks as spec;
-ghost use Rattle.parse_blocks.specs.Code.{Subs};
+ghost use Rattle.parse_blocks.specs.Code.{Subs, below, loop_rest};
 
 use crate::mark::{expect_dedent, expect_indent};
 use indent_lexer::Token;
@@ -15,15 +15,15 @@ use parse_laws::Cause;
 use parse_statements::{
     expect_newline, expect_word, read_items, read_line, read_options, sees_newline, starts_simple,
 };
-use source_trees::{Arm, Expr, For, ParOptions, Stmt};
+use source_trees::{Arm, Expr, For, LoopNames, Stmt};
 use sqlite_items::Items;
 use std::alloc::{AllocError, Global};
 
-/// What reads statements with blocks: the memory, how high a statement in a block may be, and what reads such statements.
+/// What reads statements with blocks: the memory, how high such a statement may be, and what reads the statements in its blocks.
 #[derive(Clone, Copy)]
 pub struct Blocks<F> {
     pub alloc: Global,
-    /// The greatest height of a statement in a block. The statement with the block may be one higher.
+    /// The greatest height of the statement. Those in its blocks are one lower.
     pub room: u32,
     pub sub: F,
 }
@@ -40,7 +40,9 @@ pub fn starts_statement(cursor: &Cursor<'_>) -> bool
 }
 
 /// A list of one statement.
-fn one(alloc: Global, statement: Stmt) -> Result<Items<Stmt>, AllocError> {
+fn one(alloc: Global, statement: Stmt) -> Result<Items<Stmt>, AllocError>
+    ensures { IfOk result (λ ss. ss ≡ statement ∷ []) }
+{
     let mut statements = Items::new(alloc);
     statements.push(statement)?;
     Ok(statements)
@@ -53,7 +55,9 @@ fn choice(
     first: Arm,
     more: Items<Arm>,
     other: Items<Stmt>,
-) -> Result<Items<Stmt>, AllocError> {
+) -> Result<Items<Stmt>, AllocError>
+    ensures { IfOk result (λ ss. ss ≡ Stmt.If (node_at token.now) (first ∷ more) other ∷ []) }
+{
     let mut arms = Items::new(alloc);
     arms.push(first)?;
     arms.append(more)?;
@@ -61,12 +65,19 @@ fn choice(
 }
 
 impl<F: Fn(Global, &mut Cursor<'_>, u32) -> Result<Items<Stmt>, ParseError>> Blocks<F> {
+    /// The greatest height of a statement in a block.
+    fn low(&self) -> u32
+        ensures { result ≡ self.now.room - 1 }
+    {
+        self.room.saturating_sub(1)
+    }
+
     /// A statement in a block.
     fn sub(&self, cursor: &mut Cursor<'_>) -> Result<Items<Stmt>, ParseError>
         requires { Subs self.now.room (F.pre self.now.sub) (F.post self.now.sub) }
-        ensures { Reads (spec.statement readers self.now.room cursor.old) result cursor.new }
+        ensures { Reads (spec.statement readers (self.now.room - 1) cursor.old) result cursor.new }
     {
-        (self.sub)(self.alloc, cursor, self.room)
+        (self.sub)(self.alloc, cursor, self.low())
     }
 
     /// One more statement behind those that stand.
@@ -76,7 +87,7 @@ impl<F: Fn(Global, &mut Cursor<'_>, u32) -> Result<Items<Stmt>, ParseError>> Blo
         body: Items<Stmt>,
     ) -> Result<Items<Stmt>, ParseError>
         requires { Subs self.now.room (F.pre self.now.sub) (F.post self.now.sub) }
-        ensures { Reads (and_then (spec.statement readers self.now.room cursor.old) (λ ys. pure (body ++ ys))) result cursor.new }
+        ensures { Reads (and_then (spec.statement readers (self.now.room - 1) cursor.old) (λ ys. pure (body ++ ys))) result cursor.new }
     {
         let more = self.sub(cursor)?;
         let mut body = body;
@@ -91,7 +102,7 @@ impl<F: Fn(Global, &mut Cursor<'_>, u32) -> Result<Items<Stmt>, ParseError>> Blo
         first: Items<Stmt>,
     ) -> Result<Items<Stmt>, ParseError>
         requires { Subs self.now.room (F.pre self.now.sub) (F.post self.now.sub) }
-        ensures { Reads (gather spec.starts_stmt (spec.statement readers self.now.room) first cursor.old) result cursor.new }
+        ensures { Reads (gather spec.starts_stmt (spec.statement readers (self.now.room - 1)) first cursor.old) result cursor.new }
     {
         let mut body = first;
         'turn: for _turn in 0..cursor.left() {
@@ -107,7 +118,7 @@ impl<F: Fn(Global, &mut Cursor<'_>, u32) -> Result<Items<Stmt>, ParseError>> Blo
     #[tactic(auto, unfolding(crate::specs::Blocks::indented, crate::specs::Blocks::stmts_by))]
     fn indented(&self, cursor: &mut Cursor<'_>) -> Result<Items<Stmt>, ParseError>
         requires { Subs self.now.room (F.pre self.now.sub) (F.post self.now.sub) }
-        ensures { Reads (spec.indented (spec.statement readers self.now.room) cursor.old) result cursor.new }
+        ensures { Reads (spec.indented (spec.statement readers (self.now.room - 1)) cursor.old) result cursor.new }
     {
         expect_newline(cursor)?;
         expect_indent(cursor)?;
@@ -121,41 +132,49 @@ impl<F: Fn(Global, &mut Cursor<'_>, u32) -> Result<Items<Stmt>, ParseError>> Blo
     #[tactic(auto, unfolding(crate::specs::Blocks::block, crate::specs::Blocks::block_by))]
     pub fn block(&self, cursor: &mut Cursor<'_>) -> Result<Items<Stmt>, ParseError>
         requires { Subs self.now.room (F.pre self.now.sub) (F.post self.now.sub) }
-        ensures { Reads (spec.block readers self.now.room cursor.old) result cursor.new }
+        ensures { Reads (spec.block readers (self.now.room - 1) cursor.old) result cursor.new }
     {
         cursor.expect_op(b":".as_slice())?;
         if sees_newline(cursor) {
             self.indented(cursor)
         } else {
-            read_line(self.alloc, cursor, self.room)
+            read_line(self.alloc, cursor, self.low())
         }
     }
 
-    /// A condition and its block.
-    fn arm(&self, cursor: &mut Cursor<'_>) -> Result<Arm, ParseError> {
-        let condition = read_expression(self.alloc, cursor, self.room)?;
+    /// An arm of `elif`.
+    #[tactic(auto, unfolding(crate::specs::Blocks::elif_arm, crate::specs::Blocks::block))]
+    fn elif_arm(&self, cursor: &mut Cursor<'_>) -> Result<Arm, ParseError>
+        requires { Subs self.now.room (F.pre self.now.sub) (F.post self.now.sub) }
+        ensures { Reads (spec.elif_arm readers self.now.room (spec.statement readers (self.now.room - 1)) cursor.old) result cursor.new }
+    {
+        cursor.expect_keyword(b"elif".as_slice())?;
+        let condition = read_expression(self.alloc, cursor, self.low())?.into_tree();
         let body = self.block(cursor)?;
-        Ok(Arm {
-            condition: condition.into_tree(),
-            body,
-        })
+        Ok(Arm { condition, body })
     }
 
     /// The arms of `elif`.
-    fn more_arms(&self, cursor: &mut Cursor<'_>) -> Result<Items<Arm>, ParseError> {
+    fn more_arms(&self, cursor: &mut Cursor<'_>) -> Result<Items<Arm>, ParseError>
+        requires { Subs self.now.room (F.pre self.now.sub) (F.post self.now.sub) }
+        ensures { Reads (many spec.is_elif (spec.elif_arm readers self.now.room (spec.statement readers (self.now.room - 1))) cursor.old) result cursor.new }
+    {
         let mut arms = Items::new(self.alloc);
         'turn: for _turn in 0..cursor.left() {
             if !cursor.sees_keyword(b"elif".as_slice()) {
                 return Ok(arms);
             }
-            cursor.expect_keyword(b"elif".as_slice())?;
-            arms.push(self.arm(cursor)?)?;
+            arms.push(self.elif_arm(cursor)?)?;
         }
         Ok(arms)
     }
 
     /// The block of `else`, or no statement.
-    fn otherwise(&self, cursor: &mut Cursor<'_>) -> Result<Items<Stmt>, ParseError> {
+    #[tactic(auto, unfolding(crate::specs::Blocks::otherwise, crate::specs::Blocks::block))]
+    fn otherwise(&self, cursor: &mut Cursor<'_>) -> Result<Items<Stmt>, ParseError>
+        requires { Subs self.now.room (F.pre self.now.sub) (F.post self.now.sub) }
+        ensures { Reads (spec.otherwise readers self.now.room (spec.statement readers (self.now.room - 1)) cursor.old) result cursor.new }
+    {
         if !cursor.sees_keyword(b"else".as_slice()) {
             return Ok(Items::new(self.alloc));
         }
@@ -163,54 +182,70 @@ impl<F: Fn(Global, &mut Cursor<'_>, u32) -> Result<Items<Stmt>, ParseError>> Blo
         self.block(cursor)
     }
 
-    /// What follows the first arm of `if`.
+    /// What follows the first block of `if`.
+    #[tactic(auto, unfolding(crate::specs::Blocks::branch_rest))]
     fn branch_rest(
         &self,
         cursor: &mut Cursor<'_>,
         token: &Token,
-        first: Arm,
-    ) -> Result<Items<Stmt>, ParseError> {
+        condition: Expr,
+        body: Items<Stmt>,
+    ) -> Result<Items<Stmt>, ParseError>
+        requires { Subs self.now.room (F.pre self.now.sub) (F.post self.now.sub) }
+        ensures { Reads (spec.branch_rest readers self.now.room (spec.statement readers (self.now.room - 1)) token.now condition body cursor.old) result cursor.new }
+    {
         let more = self.more_arms(cursor)?;
         let other = self.otherwise(cursor)?;
-        Ok(choice(self.alloc, token, first, more, other)?)
+        let first = Arm { condition, body };
+        let statements = choice(self.alloc, token, first, more, other)?;
+        Ok(statements)
     }
 
-    fn branch(&self, cursor: &mut Cursor<'_>) -> Result<Items<Stmt>, ParseError> {
-        if self.room < 1 {
+    /// The statement `if`, if there is room.
+    #[tactic(auto, unfolding(crate::specs::Blocks::branch, crate::specs::Blocks::block))]
+    fn branch(&self, cursor: &mut Cursor<'_>) -> Result<Items<Stmt>, ParseError>
+        requires { Subs self.now.room (F.pre self.now.sub) (F.post self.now.sub) }
+        ensures { Reads (within (nat_le 2 self.now.room) (spec.branch readers self.now.room (spec.statement readers (self.now.room - 1))) cursor.old) result cursor.new }
+    {
+        if self.room < 2 {
             return Err(ParseError::Refused(Cause::TooDeep));
         }
         let token = cursor.expect_keyword(b"if".as_slice())?;
-        let first = self.arm(cursor)?;
-        self.branch_rest(cursor, token, first)
+        let condition = read_expression(self.alloc, cursor, self.low())?.into_tree();
+        let body = self.block(cursor)?;
+        self.branch_rest(cursor, token, condition, body)
     }
 
-    fn repetition(&self, cursor: &mut Cursor<'_>) -> Result<Items<Stmt>, ParseError> {
-        if self.room < 1 {
+    /// The statement `while`, if there is room.
+    #[tactic(auto, unfolding(crate::specs::Blocks::repetition, crate::specs::Blocks::block))]
+    fn repetition(&self, cursor: &mut Cursor<'_>) -> Result<Items<Stmt>, ParseError>
+        requires { Subs self.now.room (F.pre self.now.sub) (F.post self.now.sub) }
+        ensures { Reads (within (nat_le 2 self.now.room) (spec.repetition readers self.now.room (spec.statement readers (self.now.room - 1))) cursor.old) result cursor.new }
+    {
+        if self.room < 2 {
             return Err(ParseError::Refused(Cause::TooDeep));
         }
         let token = cursor.expect_keyword(b"while".as_slice())?;
-        let Arm { condition, body } = self.arm(cursor)?;
-        Ok(one(
-            self.alloc,
-            Stmt::While(node_at(token), condition, body),
-        )?)
+        let condition = read_expression(self.alloc, cursor, self.low())?.into_tree();
+        let body = self.block(cursor)?;
+        let statements = one(self.alloc, Stmt::While(node_at(token), condition, body))?;
+        Ok(statements)
     }
 
     /// What follows the names of a loop.
-    fn loop_over(
+    #[tactic(auto, unfolding(crate::specs::Code::loop_rest))]
+    fn loop_rest(
         &self,
         cursor: &mut Cursor<'_>,
-    ) -> Result<(Expr, Items<Stmt>), ParseError> {
+        token: &Token,
+        names: LoopNames,
+    ) -> Result<For, ParseError>
+        requires { Subs self.now.room (F.pre self.now.sub) (F.post self.now.sub) }
+        ensures { Reads (loop_rest self.now.room token.now names cursor.old) result cursor.new }
+    {
         cursor.expect_keyword(b"in".as_slice())?;
-        let iterable = read_items(self.alloc, cursor, self.room)?;
+        let iterable = read_items(self.alloc, cursor, self.low())?;
         let body = self.block(cursor)?;
-        Ok((iterable, body))
-    }
-
-    fn for_loop(&self, cursor: &mut Cursor<'_>) -> Result<For, ParseError> {
-        let token = cursor.expect_keyword(b"for".as_slice())?;
-        let names = cursor.names(self.alloc)?;
-        let (iterable, body) = self.loop_over(cursor)?;
         Ok(For {
             node: node_at(token),
             names,
@@ -219,65 +254,98 @@ impl<F: Fn(Global, &mut Cursor<'_>, u32) -> Result<Items<Stmt>, ParseError>> Blo
         })
     }
 
-    fn for_statement(&self, cursor: &mut Cursor<'_>) -> Result<Items<Stmt>, ParseError> {
-        if self.room < 1 {
-            return Err(ParseError::Refused(Cause::TooDeep));
-        }
-        let each = self.for_loop(cursor)?;
-        Ok(one(self.alloc, Stmt::For(each))?)
+    /// A loop.
+    #[tactic(auto, unfolding(crate::specs::Blocks::for_loop, crate::specs::Code::loop_rest, crate::specs::Blocks::block))]
+    fn for_loop(&self, cursor: &mut Cursor<'_>) -> Result<For, ParseError>
+        requires { Subs self.now.room (F.pre self.now.sub) (F.post self.now.sub) }
+        ensures { Reads (spec.for_loop readers self.now.room (spec.statement readers (self.now.room - 1)) cursor.old) result cursor.new }
+    {
+        let token = cursor.expect_keyword(b"for".as_slice())?;
+        let names = cursor.names(self.alloc)?;
+        self.loop_rest(cursor, token, names)
     }
 
-    /// `@par` with its options, to the end of its line.
-    fn par_line(&self, cursor: &mut Cursor<'_>) -> Result<ParOptions, ParseError> {
-        expect_word(cursor, b"par".as_slice())?;
-        let options = read_options(cursor)?;
-        expect_newline(cursor)?;
-        Ok(options)
-    }
-
-    /// `@par` and its loop, whose statements are one lower.
-    fn parallel(self, cursor: &mut Cursor<'_>) -> Result<Items<Stmt>, ParseError> {
+    /// A loop as a statement, if there is room.
+    fn for_statement(&self, cursor: &mut Cursor<'_>) -> Result<Items<Stmt>, ParseError>
+        requires { Subs self.now.room (F.pre self.now.sub) (F.post self.now.sub) }
+        ensures { Reads (within (nat_le 2 self.now.room) (λ ts. and_then (spec.for_loop readers self.now.room (spec.statement readers (self.now.room - 1)) ts) (λ f. pure (Stmt.For f ∷ []))) cursor.old) result cursor.new }
+    {
         if self.room < 2 {
             return Err(ParseError::Refused(Cause::TooDeep));
         }
-        let token = cursor.expect_op(b"@".as_slice())?;
-        let options = self.par_line(cursor)?;
+        let each = self.for_loop(cursor)?;
+        let statements = one(self.alloc, Stmt::For(each))?;
+        Ok(statements)
+    }
+
+    /// The loop under `@par`, which is one lower than this statement may be.
+    fn lower_loop(self, cursor: &mut Cursor<'_>) -> Result<For, ParseError>
+        requires { Subs self.room (F.pre self.sub) (F.post self.sub) }
+        ensures { Reads (spec.for_loop readers (self.room - 1) (spec.statement readers (self.room - 1 - 1)) cursor.old) result cursor.new }
+    {
         let lower = Blocks {
             alloc: self.alloc,
-            room: self.room - 1,
+            room: self.low(),
             sub: self.sub,
         };
-        let each = lower.for_loop(cursor)?;
-        Ok(one(
-            self.alloc,
-            Stmt::Par(node_at(token), options, each),
-        )?)
+        lower.for_loop(cursor)
+    }
+
+    /// `@par` and its loop, if there is room.
+    #[tactic(auto, unfolding(crate::specs::Blocks::parallel))]
+    fn parallel(self, cursor: &mut Cursor<'_>) -> Result<Items<Stmt>, ParseError>
+        requires { Subs self.room (F.pre self.sub) (F.post self.sub) }
+        ensures { Reads (within (nat_le 3 self.room) (spec.parallel (spec.for_loop readers (self.room - 1) (spec.statement readers (self.room - 1 - 1)))) cursor.old) result cursor.new }
+    {
+        if self.room < 3 {
+            return Err(ParseError::Refused(Cause::TooDeep));
+        }
+        let alloc = self.alloc;
+        let token = cursor.expect_op(b"@".as_slice())?;
+        expect_word(cursor, b"par".as_slice())?;
+        let options = read_options(cursor)?;
+        expect_newline(cursor)?;
+        let each = self.lower_loop(cursor)?;
+        let statements = one(alloc, Stmt::Par(node_at(token), options, each))?;
+        Ok(statements)
+    }
+
+    /// A statement by its first token.
+    #[tactic(auto, unfolding(crate::specs::Blocks::statement_by))]
+    fn statement(self, cursor: &mut Cursor<'_>) -> Result<Items<Stmt>, ParseError>
+        requires { Subs self.room (F.pre self.sub) (F.post self.sub) }
+        ensures { Reads (spec.statement_by readers self.room (below self.room) cursor.old) result cursor.new }
+    {
+        if cursor.sees_keyword(b"if".as_slice()) {
+            self.branch(cursor)
+        } else if cursor.sees_keyword(b"while".as_slice()) {
+            self.repetition(cursor)
+        } else if cursor.sees_keyword(b"for".as_slice()) {
+            self.for_statement(cursor)
+        } else if cursor.sees_op(b"@".as_slice()) {
+            self.parallel(cursor)
+        } else {
+            read_line(self.alloc, cursor, self.room)
+        }
     }
 }
 
 /// The simple statements of a line or one statement with blocks, each at most `room` high. The cursor stands after it, or at the token that is refused.
+#[tactic(auto, using(crate::proofs::Levels::statement_none, crate::proofs::Levels::statement_some))]
 pub fn read_statement(
     alloc: Global,
     cursor: &mut Cursor<'_>,
     room: u32,
-) -> Result<Items<Stmt>, ParseError> {
+) -> Result<Items<Stmt>, ParseError>
+    ensures { Reads (spec.statement readers room cursor.old) result cursor.new }
+{
     if room == 0 {
         return Err(ParseError::Refused(Cause::Unexpected));
     }
     let blocks = Blocks {
         alloc,
-        room: room - 1,
+        room,
         sub: read_statement,
     };
-    if cursor.sees_keyword(b"if".as_slice()) {
-        blocks.branch(cursor)
-    } else if cursor.sees_keyword(b"while".as_slice()) {
-        blocks.repetition(cursor)
-    } else if cursor.sees_keyword(b"for".as_slice()) {
-        blocks.for_statement(cursor)
-    } else if cursor.sees_op(b"@".as_slice()) {
-        blocks.parallel(cursor)
-    } else {
-        read_line(alloc, cursor, room)
-    }
+    blocks.statement(cursor)
 }

@@ -1,16 +1,20 @@
 ghost use Rattle.std.specs.Prelude.{◌≡◌, ◌-◌, ◌∷◌, ◌++◌, [], length, IfOk};
-ghost use Rattle.parse_laws.specs.Parser.{sees, and_then, pure, repeat};
+ghost use Rattle.parse_laws.specs.Parser.{sees, and_then, pure, expect, take_by, repeat};
+ghost use Rattle.grammar_rules.specs.Words.{is_newline, node_at};
+ghost use Rattle.parse_expressions.specs.Reading.{text_at};
 ghost use Rattle.parse_expressions.specs.Code.{Reads};
 ghost use Rattle.parse_statements.specs.Code.{readers};
 ghost use Rattle.parse_blocks.specs.Functions as spec;
+ghost use Rattle.parse_blocks.specs.Code.{text_member, class_after, class_rest};
 
 use crate::function::read_function;
 use crate::mark::{expect_dedent, expect_indent};
-use indent_lexer::TokenKind;
+use codon_base::Text;
+use indent_lexer::{Token, TokenKind};
 use parse_expressions::{Cursor, ParseError, node_at, read_type};
 use parse_laws::Cause;
 use parse_statements::{MOST_ITEMS, expect_newline};
-use source_trees::{Class, Member};
+use source_trees::{Class, Member, Name, Node};
 use sqlite_items::Items;
 use std::alloc::{AllocError, Global};
 use std::marker::Model;
@@ -87,8 +91,10 @@ fn field(alloc: Global, cursor: &mut Cursor<'_>, room: u32) -> Result<Member, Pa
     Ok(Member::Field(name.node, name, annotation))
 }
 
-/// A text on a line of its own.
-fn text_member(alloc: Global, cursor: &mut Cursor<'_>) -> Result<Member, ParseError> {
+/// Takes a text with its place.
+fn take_text(alloc: Global, cursor: &mut Cursor<'_>) -> Result<(Node, Text), ParseError>
+    ensures { Reads (take_by text_at cursor.old) result cursor.new }
+{
     let Some(first) = cursor.first() else {
         return Err(ParseError::Refused(Cause::Unexpected));
     };
@@ -97,18 +103,29 @@ fn text_member(alloc: Global, cursor: &mut Cursor<'_>) -> Result<Member, ParseEr
     };
     let value = value.try_clone(alloc)?;
     cursor.skip();
+    Ok((node_at(first), value))
+}
+
+/// A text on a line of its own.
+#[tactic(auto, unfolding(crate::specs::Code::text_member))]
+fn text_member(alloc: Global, cursor: &mut Cursor<'_>) -> Result<Member, ParseError>
+    ensures { Reads (text_member cursor.old) result cursor.new }
+{
+    let (node, value) = take_text(alloc, cursor)?;
     expect_newline(cursor)?;
-    Ok(Member::Text(node_at(first), value))
+    Ok(Member::Text(node, value))
 }
 
 /// `pass` on a line.
-fn pass_member(cursor: &mut Cursor<'_>) -> Result<Member, ParseError> {
+fn pass_member(cursor: &mut Cursor<'_>) -> Result<Member, ParseError>
+    ensures { Reads (and_then (expect spec.is_pass cursor.old) (λ t ts. and_then (expect is_newline ts) (λ _. pure (Member.Pass (node_at t))))) result cursor.new }
+{
     let token = cursor.expect_keyword(b"pass".as_slice())?;
     expect_newline(cursor)?;
     Ok(Member::Pass(node_at(token)))
 }
 
-#[tactic(auto, unfolding(crate::specs::Functions::one_member))]
+#[tactic(auto, unfolding(crate::specs::Functions::one_member, crate::specs::Code::text_member))]
 fn read_member(alloc: Global, cursor: &mut Cursor<'_>, room: u32) -> Result<Member, ParseError>
     ensures { Reads (spec.one_member readers room cursor.old) result cursor.new }
 {
@@ -184,31 +201,49 @@ fn read_members(
     Ok(members.into_items())
 }
 
-/// The members of a class in their block.
-fn class_body(
+/// The members of a class, to the end of its block.
+#[tactic(auto, unfolding(crate::specs::Code::class_rest))]
+fn class_rest(
     alloc: Global,
     cursor: &mut Cursor<'_>,
     room: u32,
-) -> Result<Items<Member>, ParseError> {
-    cursor.expect_op(b":".as_slice())?;
-    expect_newline(cursor)?;
-    expect_indent(cursor)?;
-    let members = read_members(alloc, cursor, room)?;
-    expect_dedent(cursor)?;
-    Ok(members)
-}
-
-/// A class that is at most `room` high.
-#[tactic(auto, unfolding(crate::specs::Functions::class))]
-pub fn read_class(alloc: Global, cursor: &mut Cursor<'_>, room: u32) -> Result<Class, ParseError>
-    ensures { Reads (spec.class readers room cursor.old) result cursor.new }
+    token: &Token,
+    name: Name,
+) -> Result<Class, ParseError>
+    ensures { Reads (class_rest room token.now name cursor.old) result cursor.new }
 {
-    let token = cursor.expect_keyword(b"class".as_slice())?;
-    let name = cursor.take_name(alloc)?;
-    let members = class_body(alloc, cursor, room.saturating_sub(1))?;
+    let members = read_members(alloc, cursor, room.saturating_sub(1))?;
+    expect_dedent(cursor)?;
     Ok(Class {
         node: node_at(token),
         name,
         members,
     })
+}
+
+/// What follows the name of a class.
+#[tactic(auto, unfolding(crate::specs::Code::class_after))]
+fn class_after(
+    alloc: Global,
+    cursor: &mut Cursor<'_>,
+    room: u32,
+    token: &Token,
+    name: Name,
+) -> Result<Class, ParseError>
+    ensures { Reads (class_after room token.now name cursor.old) result cursor.new }
+{
+    cursor.expect_op(b":".as_slice())?;
+    expect_newline(cursor)?;
+    expect_indent(cursor)?;
+    class_rest(alloc, cursor, room, token, name)
+}
+
+/// A class that is at most `room` high.
+#[tactic(auto, unfolding(crate::specs::Functions::class, crate::specs::Code::class_after, crate::specs::Code::class_rest))]
+pub fn read_class(alloc: Global, cursor: &mut Cursor<'_>, room: u32) -> Result<Class, ParseError>
+    ensures { Reads (spec.class readers room cursor.old) result cursor.new }
+{
+    let token = cursor.expect_keyword(b"class".as_slice())?;
+    let name = cursor.take_name(alloc)?;
+    class_after(alloc, cursor, room, token, name)
 }

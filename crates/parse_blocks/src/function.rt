@@ -7,6 +7,7 @@ ghost use Rattle.parse_expressions.specs.Code.{Reads};
 ghost use Rattle.parse_statements.specs.Readers.{has_room};
 ghost use Rattle.parse_statements.specs.Code.{readers};
 ghost use Rattle.parse_blocks.specs.Functions as spec;
+ghost use Rattle.parse_blocks.specs.Code.{function_after};
 
 use crate::block::{Blocks, read_statement};
 use indent_lexer::Token;
@@ -151,11 +152,10 @@ fn function_rest(
 ) -> Result<Function, ParseError>
     ensures { Reads (spec.function_rest readers room token.now name params cursor.old) result cursor.new }
 {
-    let low = room.saturating_sub(1);
-    let result = marked(alloc, cursor, low, b"->".as_slice())?;
+    let result = marked(alloc, cursor, room.saturating_sub(1), b"->".as_slice())?;
     let blocks = Blocks {
         alloc,
-        room: low,
+        room,
         sub: read_statement,
     };
     let body = blocks.block(cursor)?;
@@ -168,20 +168,25 @@ fn function_rest(
     })
 }
 
-/// The parameters of a function in their brackets.
-fn bracketed_params(
+/// What follows the name of a function.
+#[tactic(auto, unfolding(crate::specs::Code::function_after))]
+fn function_after(
     alloc: Global,
     cursor: &mut Cursor<'_>,
     room: u32,
-) -> Result<Items<Param>, ParseError> {
+    token: &Token,
+    name: Name,
+) -> Result<Function, ParseError>
+    ensures { Reads (function_after room token.now name cursor.old) result cursor.new }
+{
     cursor.expect_op(b"(".as_slice())?;
-    let params = read_params(alloc, cursor, room)?;
+    let params = read_params(alloc, cursor, room.saturating_sub(1))?;
     cursor.expect_op(b")".as_slice())?;
-    Ok(params)
+    function_rest(alloc, cursor, room, token, name, params)
 }
 
 /// A function that is at most `room` high.
-#[tactic(auto, unfolding(crate::specs::Functions::function))]
+#[tactic(auto, unfolding(crate::specs::Functions::function, crate::specs::Code::function_after))]
 pub fn read_function(
     alloc: Global,
     cursor: &mut Cursor<'_>,
@@ -191,6 +196,5 @@ pub fn read_function(
 {
     let token = cursor.expect_keyword(b"def".as_slice())?;
     let name = cursor.take_name(alloc)?;
-    let params = bracketed_params(alloc, cursor, room.saturating_sub(1))?;
-    function_rest(alloc, cursor, room, token, name, params)
+    function_after(alloc, cursor, room, token, name)
 }

@@ -1,10 +1,15 @@
-ghost use Rattle.std.specs.Prelude.{◌≡◌, ◌∷◌, ◌++◌, [], ◌<◌, ◌^◌, length, IfOk, IfErr};
+ghost use Rattle.std.specs.Prelude.{◌≡◌, ◌-◌, ◌∷◌, ◌++◌, [], ◌<◌, ◌^◌, length, reverse, slice_get, Some, IfOk, IfErr};
+ghost use Rattle.std.specs.List.{list_any};
+ghost use Rattle.std.specs.Str.{bytes_eq};
 ghost use Rattle.parse_laws.specs.Parser.{sees, and_then, pure};
 ghost use Rattle.grammar_rules.specs.Modules.{most_height};
 ghost use Rattle.grammar_rules.specs.Refusals.{kind_of, is_left_out};
 ghost use Rattle.parse_expressions.specs.Code.{Reads};
 ghost use Rattle.parse_statements.specs.Code.{readers};
 ghost use Rattle.parse_blocks.specs.Gather.{gather};
+ghost use Rattle.parse_blocks.specs.Functions.{function, class};
+ghost use Rattle.parse_blocks.specs.Answers.{IsText, DerivesLow, IsPlaceOf};
+ghost use Rattle.parse_blocks.specs.Code.{early, late, refusal_at};
 ghost use Rattle.parse_blocks.specs.Sources as spec;
 
 use crate::block::{read_statement, starts_statement};
@@ -25,7 +30,9 @@ use std::alloc::{AllocError, Global};
 const MOST_HEIGHT: u32 = 100;
 
 /// These statements, from the last to the first.
-fn statements_back(alloc: Global, statements: Items<Stmt>) -> Result<Items<Stmt>, AllocError> {
+fn statements_back(alloc: Global, statements: Items<Stmt>) -> Result<Items<Stmt>, AllocError>
+    ensures { IfOk result (λ r. r ≡ reverse statements) }
+{
     let mut left = statements;
     let mut turned = Items::new(alloc);
     'turn: for _turn in 0..left.len() {
@@ -42,7 +49,9 @@ fn push_statements(
     alloc: Global,
     items: Items<Item>,
     statements: Items<Stmt>,
-) -> Result<Items<Item>, AllocError> {
+) -> Result<Items<Item>, AllocError>
+    ensures { IfOk result (λ r. r ≡ items ++ spec.as_items statements) }
+{
     let mut left = statements_back(alloc, statements)?;
     let mut items = items;
     'turn: for _turn in 0..left.len() {
@@ -59,7 +68,9 @@ fn function_turn(
     alloc: Global,
     cursor: &mut Cursor<'_>,
     items: Items<Item>,
-) -> Result<Items<Item>, ParseError> {
+) -> Result<Items<Item>, ParseError>
+    ensures { Reads (and_then (function readers most_height cursor.old) (λ f. pure (items ++ Item.Function f ∷ []))) result cursor.new }
+{
     let function = read_function(alloc, cursor, MOST_HEIGHT)?;
     let mut items = items;
     items.push(Item::Function(function))?;
@@ -71,7 +82,9 @@ fn class_turn(
     alloc: Global,
     cursor: &mut Cursor<'_>,
     items: Items<Item>,
-) -> Result<Items<Item>, ParseError> {
+) -> Result<Items<Item>, ParseError>
+    ensures { Reads (and_then (class readers most_height cursor.old) (λ c. pure (items ++ Item.Class c ∷ []))) result cursor.new }
+{
     let class = read_class(alloc, cursor, MOST_HEIGHT)?;
     let mut items = items;
     items.push(Item::Class(class))?;
@@ -79,11 +92,14 @@ fn class_turn(
 }
 
 /// What stands at the top, behind the items that stand.
+#[tactic(auto, unfolding(crate::specs::Sources::top))]
 fn turn(
     alloc: Global,
     cursor: &mut Cursor<'_>,
     items: Items<Item>,
-) -> Result<Items<Item>, ParseError> {
+) -> Result<Items<Item>, ParseError>
+    ensures { Reads (and_then (spec.top readers most_height cursor.old) (λ ys. pure (items ++ ys))) result cursor.new }
+{
     if cursor.sees_keyword(b"def".as_slice()) {
         return function_turn(alloc, cursor, items);
     }
@@ -104,7 +120,10 @@ fn starts_top(cursor: &Cursor<'_>) -> bool
 }
 
 /// All that stands at the top.
-fn read_items(alloc: Global, cursor: &mut Cursor<'_>) -> Result<Items<Item>, ParseError> {
+#[tactic(auto, unfolding(crate::specs::Sources::tops))]
+fn read_items(alloc: Global, cursor: &mut Cursor<'_>) -> Result<Items<Item>, ParseError>
+    ensures { Reads (spec.tops readers most_height cursor.old) result cursor.new }
+{
     let mut items = Items::new(alloc);
     'turn: for _turn in 0..cursor.left() {
         if !starts_top(cursor) {
@@ -116,7 +135,10 @@ fn read_items(alloc: Global, cursor: &mut Cursor<'_>) -> Result<Items<Item>, Par
 }
 
 /// A whole source: nothing follows its end.
-fn read_all(alloc: Global, cursor: &mut Cursor<'_>) -> Result<Module, ParseError> {
+#[tactic(auto, unfolding(crate::specs::Sources::source, crate::specs::Sources::source_at))]
+fn read_all(alloc: Global, cursor: &mut Cursor<'_>) -> Result<Module, ParseError>
+    ensures { Reads (spec.source readers cursor.old) result cursor.new }
+{
     let items = read_items(alloc, cursor)?;
     expect_end(cursor)?;
     if cursor.left() > 0 {
@@ -126,7 +148,9 @@ fn read_all(alloc: Global, cursor: &mut Cursor<'_>) -> Result<Module, ParseError
 }
 
 /// Whether the keyword is one of Python's from `as` to `except` that are left out.
-fn is_left_out_early(word: &[u8]) -> bool {
+fn is_left_out_early(word: &[u8]) -> bool
+    ensures { result ≡ list_any (bytes_eq word.now) early }
+{
     word == b"as".as_slice()
         || word == b"async".as_slice()
         || word == b"await".as_slice()
@@ -137,7 +161,9 @@ fn is_left_out_early(word: &[u8]) -> bool {
 }
 
 /// Whether the keyword is one of Python's from `finally` on that are left out.
-fn is_left_out_late(word: &[u8]) -> bool {
+fn is_left_out_late(word: &[u8]) -> bool
+    ensures { result ≡ list_any (bytes_eq word.now) late }
+{
     word == b"finally".as_slice()
         || word == b"from".as_slice()
         || word == b"global".as_slice()
@@ -178,7 +204,9 @@ fn kind_of(cause: Cause, token: &Token) -> ParseKind
 }
 
 /// The refusal of the first of the tokens that are left, so many.
-fn refusal(tokens: &[Token], left: usize, cause: Cause) -> ParseRefusal {
+fn refusal(tokens: &[Token], left: usize, cause: Cause) -> ParseRefusal
+    ensures { (t : Token) → slice_get tokens.now (length tokens.now - left) ≡ Some t → length tokens.now < 2 ^ 32 → result ≡ refusal_at (length tokens.now - left) cause t }
+{
     let place = tokens.len().saturating_sub(left);
     match tokens.get(place) {
         Some(token) => ParseRefusal {
@@ -199,7 +227,10 @@ fn refusal(tokens: &[Token], left: usize, cause: Cause) -> ParseRefusal {
 }
 
 /// The tree of a whole source, whose nodes have the number 0, or the first bad token.
-pub fn read_source(alloc: Global, tokens: &[Token]) -> Result<Module, Or<ParseRefusal>> {
+pub fn read_source(alloc: Global, tokens: &[Token]) -> Result<Module, Or<ParseRefusal>>
+    ensures tree { IfOk result (λ m. DerivesLow tokens.now m) }
+    ensures refusal { IsText tokens.now → length tokens.now < 2 ^ 32 → IfErr result (IsPlaceOf tokens.now) }
+{
     let mut cursor = Cursor::new(tokens);
     match read_all(alloc, &mut cursor) {
         Ok(module) => Ok(module),

@@ -1,6 +1,6 @@
 -- What stands in the code for functions and lists of the parser: the name of an option for what it makes, and two lists for
 -- arguments with a piped value between.
-use Rattle.std.specs.Prelude.{◌≡◌, ℕ, Bool, true, false, List, [], ◌∷◌, ◌++◌, map, Option, Some, None}
+use Rattle.std.specs.Prelude.{◌≡◌, ℕ, Bool, true, false, List, [], ◌∷◌, ◌++◌, map, reverse, Option, Some, None}
 use Rattle.indent_lexer.specs.declared.token.Token.{Token}
 use Rattle.source_trees.specs.declared.expression.Expr.{Expr}
 use Rattle.source_trees.specs.declared.pipeline.PrintOptions.{PrintOptions}
@@ -49,3 +49,8 @@ placed before false after = map Some before
 abbrev pub IsPlaced : Bool → List Expr → Type 0
 IsPlaced true after = Unit {0}
 IsPlaced false after = after ≡ []
+
+-- these, from the last to the first, if there are any
+abbrev pub turned : {A : Type 0} → Option (List A) → Option (List A)
+turned None = None
+turned (Some xs) = Some (reverse xs)

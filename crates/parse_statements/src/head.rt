@@ -1,6 +1,7 @@
 ghost use Rattle.std.specs.Prelude.{◌≡◌, ◌-◌, ◌∷◌, ◌++◌, [], true, length, IfOk, Some};
 ghost use Rattle.parse_laws.specs.Parser.{sees, repeat, row_turn};
 ghost use Rattle.parse_laws.specs.Loops.{row_test};
+ghost use Rattle.grammar_rules.specs.Expressions.{node_of};
 ghost use Rattle.grammar_rules.specs.Words.{is_comma};
 ghost use Rattle.parse_expressions.specs.Code.{Reads};
 ghost use Rattle.parse_statements.specs.Targets.{is_pointed, is_print, target_of, targets_of};
@@ -238,13 +239,16 @@ fn evaluate_row(cursor: &Cursor<'_>, node: Node, heads: Heads) -> Result<Stmt, P
 }
 
 /// The end of items with commas, the first of which has this node.
+#[tactic(auto, unfolding(crate::specs::Heads::row_end, crate::specs::Heads::evaluate))]
 fn row_end(
     alloc: Global,
     cursor: &mut Cursor<'_>,
     room: u32,
     node: Node,
     heads: Heads,
-) -> Result<Stmt, ParseError> {
+) -> Result<Stmt, ParseError>
+    ensures { (x : Expr) → node_of x ≡ node → Reads (spec.row_end readers room x heads cursor.old) result cursor.new }
+{
     if !cursor.sees_op(b"=".as_slice()) {
         return evaluate_row(cursor, node, heads);
     }
@@ -253,13 +257,17 @@ fn row_end(
 }
 
 /// The statement that begins with this item, from its first comma on.
+#[tactic(auto, unfolding(crate::specs::Heads::row_after))]
 pub fn row_after(
     alloc: Global,
     cursor: &mut Cursor<'_>,
     room: u32,
     node: Node,
     first: Expr,
-) -> Result<Stmt, ParseError> {
+) -> Result<Stmt, ParseError>
+    requires { node ≡ node_of first }
+    ensures { Reads (spec.row_after readers room first cursor.old) result cursor.new }
+{
     cursor.expect_op(b",".as_slice())?;
     let heads = Heads::new(alloc).push(first)?;
     let (heads, _is_open) = more_heads(alloc, cursor, room.saturating_sub(2), heads)?;

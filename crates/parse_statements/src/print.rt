@@ -1,7 +1,10 @@
 ghost use Rattle.std.specs.Prelude.{◌≡◌, ◌∷◌, ◌++◌, [], ◌&&◌, not, length, IfOk, Some, MatchOption};
-ghost use Rattle.parse_laws.specs.Parser.{sees, repeat, take_by, choose, expect, and_then};
+ghost use Rattle.parse_laws.specs.Parser.{sees, repeat, take_by, choose, expect, and_then, pure};
 ghost use Rattle.grammar_rules.specs.Words.{is_comma};
+ghost use Rattle.parse_expressions.specs.declared.form.Form.TheVariants.{Whole};
+ghost use Rattle.parse_expressions.specs.Reading.{read};
 ghost use Rattle.parse_expressions.specs.Code.{Reads};
+ghost use Rattle.parse_statements.specs.Heads.{is_equals};
 ghost use Rattle.parse_statements.specs.Prints as spec;
 ghost use Rattle.parse_statements.specs.Settings.{setter, Sets};
 ghost use Rattle.parse_statements.specs.Code.{readers, ReadsFor};
@@ -130,7 +133,9 @@ fn value_or_option(
     cursor: &mut Cursor<'_>,
     room: u32,
     printed: Printed,
-) -> Result<Printed, ParseError> {
+) -> Result<Printed, ParseError>
+    ensures { Reads (and_then (read room Whole cursor.old) (λ x. choose is_equals (spec.set_to readers room printed (spec.option_by printed.options x)) (pure (spec.with_value printed x)))) result cursor.new }
+{
     let tree = read_expression(alloc, cursor, room)?.into_tree();
     if !cursor.sees_op(b"=".as_slice()) {
         return Ok(with_value(printed, tree)?);

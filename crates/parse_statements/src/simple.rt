@@ -1,4 +1,6 @@
-ghost use Rattle.std.specs.Prelude.{◌≡◌, ◌-◌, ◌+◌, nat_le, None, Some};
+ghost use Rattle.std.specs.Prelude.{◌≡◌, ◌-◌, ◌+◌, nat_le, not, None, Some};
+ghost use Rattle.parse_laws.specs.Parser.{choose, refuse, within};
+ghost use Rattle.grammar_rules.specs.Expressions.{node_of};
 ghost use Rattle.source_trees.specs.Heights.{height_of_expr};
 ghost use Rattle.grammar_rules.specs.Words.{is_keyword, node_at};
 ghost use Rattle.parse_expressions.specs.Code.{Reads};
@@ -23,13 +25,16 @@ use sqlite_items::Items;
 use std::alloc::Global;
 
 /// `=` and the value of an annotated name, or nothing.
+#[tactic(auto, unfolding(crate::specs::Simple::annotated_value))]
 fn annotated_value(
     alloc: Global,
     cursor: &mut Cursor<'_>,
     room: u32,
     name: Name,
     annotation: Annotation,
-) -> Result<Stmt, ParseError> {
+) -> Result<Stmt, ParseError>
+    ensures { Reads (spec.annotated_value readers room name.node name.spelling annotation cursor.old) result cursor.new }
+{
     let node = name.node;
     if !cursor.sees_op(b"=".as_slice()) {
         return Ok(Stmt::Annotated(node, name, annotation, None));
@@ -40,12 +45,15 @@ fn annotated_value(
 }
 
 /// A colon and a type behind a name, and perhaps a value.
+#[tactic(auto, unfolding(crate::specs::Simple::annotate, crate::specs::Simple::annotated_value))]
 fn annotate(
     alloc: Global,
     cursor: &mut Cursor<'_>,
     room: u32,
     target: Option<Target>,
-) -> Result<Stmt, ParseError> {
+) -> Result<Stmt, ParseError>
+    ensures { Reads (spec.annotate readers room target cursor.old) result cursor.new }
+{
     let Some(Target::Name(node, spelling)) = target else {
         return Err(ParseError::Refused(Cause::Unexpected));
     };
@@ -55,13 +63,17 @@ fn annotate(
 }
 
 /// The stages of a pipeline whose head is this expression.
+#[tactic(auto, unfolding(crate::specs::Simple::pipe))]
 fn pipe(
     alloc: Global,
     cursor: &mut Cursor<'_>,
     room: u32,
     node: Node,
     tree: Expr,
-) -> Result<Stmt, ParseError> {
+) -> Result<Stmt, ParseError>
+    requires { node ≡ node_of tree }
+    ensures { Reads (spec.pipe readers room tree cursor.old) result cursor.new }
+{
     if is_print(&tree) {
         return Err(ParseError::Refused(Cause::Unexpected));
     }
@@ -70,7 +82,11 @@ fn pipe(
 }
 
 /// The expression as a statement.
-fn evaluate(node: Node, tree: Expr) -> Result<Stmt, ParseError> {
+#[tactic(auto, unfolding(crate::specs::Heads::evaluate))]
+fn evaluate(cursor: &Cursor<'_>, node: Node, tree: Expr) -> Result<Stmt, ParseError>
+    requires { node ≡ node_of tree }
+    ensures { Reads (heads.evaluate readers (not (is_print tree)) tree cursor.now) result cursor.now }
+{
     if is_print(&tree) {
         return Err(ParseError::Refused(Cause::Unexpected));
     }
@@ -85,7 +101,11 @@ fn row(
     node: Node,
     tree: Expr,
     fits: bool,
-) -> Result<Stmt, ParseError> {
+) -> Result<Stmt, ParseError>
+    requires node { node ≡ node_of tree }
+    requires fits { fits ≡ nat_le (height_of_expr tree + 2) room }
+    ensures { Reads (within (nat_le (height_of_expr tree + 2) room) (heads.row_after readers room tree) cursor.old) result cursor.new }
+{
     if !fits {
         return Err(ParseError::Refused(Cause::TooDeep));
     }
@@ -93,6 +113,7 @@ fn row(
 }
 
 /// What follows an expression or a target that a statement begins with. `fits` says that a row may begin with it.
+#[tactic(auto, unfolding(crate::specs::Simple::tail, crate::specs::Simple::tail_of))]
 fn tail(
     alloc: Global,
     cursor: &mut Cursor<'_>,
@@ -100,14 +121,18 @@ fn tail(
     node: Node,
     tree: Expr,
     fits: bool,
-) -> Result<Stmt, ParseError> {
+) -> Result<Stmt, ParseError>
+    requires node { node ≡ node_of tree }
+    requires fits { fits ≡ nat_le (height_of_expr tree + 2) room }
+    ensures { Reads (spec.tail readers room tree cursor.old) result cursor.new }
+{
     match follow_of(cursor) {
         Follow::Comma => row(alloc, cursor, room, node, tree, fits),
         Follow::Equals => assign(alloc, cursor, room, one_target(tree)),
         Follow::Augmented => update(alloc, cursor, room, target_of(tree)),
         Follow::Piped => pipe(alloc, cursor, room, node, tree),
         Follow::Colon => annotate(alloc, cursor, room, target_of(tree)),
-        Follow::Over => evaluate(node, tree),
+        Follow::Over => evaluate(cursor, node, tree),
     }
 }
 
@@ -133,7 +158,9 @@ fn print_target(
     cursor: &mut Cursor<'_>,
     room: u32,
     token: &Token,
-) -> Result<Stmt, ParseError> {
+) -> Result<Stmt, ParseError>
+    ensures { Reads (choose spec.print_goes (within (nat_le 2 room) (spec.tail readers room (spec.print_tree token.now))) refuse cursor.old) result cursor.new }
+{
     if matches!(follow_of(cursor), Follow::Piped | Follow::Over) {
         return Err(ParseError::Refused(Cause::Unexpected));
     }
@@ -146,7 +173,10 @@ fn print_target(
 }
 
 /// A statement that begins with the name `print`.
-fn print_lead(alloc: Global, cursor: &mut Cursor<'_>, room: u32) -> Result<Stmt, ParseError> {
+#[tactic(auto, unfolding(crate::specs::Simple::lead, crate::specs::Simple::after_print))]
+fn print_lead(alloc: Global, cursor: &mut Cursor<'_>, room: u32) -> Result<Stmt, ParseError>
+    ensures { Reads (spec.lead readers room spec.Print cursor.old) result cursor.new }
+{
     let token = expect_word(cursor, b"print".as_slice())?;
     if cursor.sees_op(b"(".as_slice()) {
         print_call(alloc, cursor, room, token)
@@ -155,22 +185,34 @@ fn print_lead(alloc: Global, cursor: &mut Cursor<'_>, room: u32) -> Result<Stmt,
     }
 }
 
-fn pass_lead(cursor: &mut Cursor<'_>) -> Result<Stmt, ParseError> {
+#[tactic(auto, unfolding(crate::specs::Simple::lead))]
+fn pass_lead(cursor: &mut Cursor<'_>) -> Result<Stmt, ParseError>
+    ensures { Reads (spec.lead readers 0 spec.Pass cursor.old) result cursor.new }
+{
     let token = cursor.expect_keyword(b"pass".as_slice())?;
     Ok(Stmt::Pass(node_at(token)))
 }
 
-fn break_lead(cursor: &mut Cursor<'_>) -> Result<Stmt, ParseError> {
+#[tactic(auto, unfolding(crate::specs::Simple::lead))]
+fn break_lead(cursor: &mut Cursor<'_>) -> Result<Stmt, ParseError>
+    ensures { Reads (spec.lead readers 0 spec.Break cursor.old) result cursor.new }
+{
     let token = cursor.expect_keyword(b"break".as_slice())?;
     Ok(Stmt::Break(node_at(token)))
 }
 
-fn continue_lead(cursor: &mut Cursor<'_>) -> Result<Stmt, ParseError> {
+#[tactic(auto, unfolding(crate::specs::Simple::lead))]
+fn continue_lead(cursor: &mut Cursor<'_>) -> Result<Stmt, ParseError>
+    ensures { Reads (spec.lead readers 0 spec.Continue cursor.old) result cursor.new }
+{
     let token = cursor.expect_keyword(b"continue".as_slice())?;
     Ok(Stmt::Continue(node_at(token)))
 }
 
-fn return_lead(alloc: Global, cursor: &mut Cursor<'_>, room: u32) -> Result<Stmt, ParseError> {
+#[tactic(auto, unfolding(crate::specs::Simple::lead))]
+fn return_lead(alloc: Global, cursor: &mut Cursor<'_>, room: u32) -> Result<Stmt, ParseError>
+    ensures { Reads (spec.lead readers room spec.Return cursor.old) result cursor.new }
+{
     let token = cursor.expect_keyword(b"return".as_slice())?;
     if !cursor.begins(3) {
         return Ok(Stmt::Return(node_at(token), None));
@@ -179,7 +221,10 @@ fn return_lead(alloc: Global, cursor: &mut Cursor<'_>, room: u32) -> Result<Stmt
     Ok(Stmt::Return(node_at(token), Some(value)))
 }
 
-fn yield_lead(alloc: Global, cursor: &mut Cursor<'_>, room: u32) -> Result<Stmt, ParseError> {
+#[tactic(auto, unfolding(crate::specs::Simple::lead))]
+fn yield_lead(alloc: Global, cursor: &mut Cursor<'_>, room: u32) -> Result<Stmt, ParseError>
+    ensures { Reads (spec.lead readers room spec.Yield cursor.old) result cursor.new }
+{
     if room < 2 {
         return Err(ParseError::Refused(Cause::TooDeep));
     }
@@ -189,13 +234,16 @@ fn yield_lead(alloc: Global, cursor: &mut Cursor<'_>, room: u32) -> Result<Stmt,
 }
 
 /// The text in the brackets after the name of a fault, which may be empty.
+#[tactic(auto, unfolding(crate::specs::Simple::fault_text))]
 fn fault_text(
     alloc: Global,
     cursor: &mut Cursor<'_>,
     room: u32,
     token: &Token,
     name: Name,
-) -> Result<Stmt, ParseError> {
+) -> Result<Stmt, ParseError>
+    ensures { Reads (spec.fault_text readers room token.now name cursor.old) result cursor.new }
+{
     cursor.expect_op(b"(".as_slice())?;
     if !cursor.begins(3) {
         cursor.expect_op(b")".as_slice())?;
@@ -206,7 +254,10 @@ fn fault_text(
     Ok(Stmt::Raise(node_at(token), name, Some(text.into_tree())))
 }
 
-fn raise_lead(alloc: Global, cursor: &mut Cursor<'_>, room: u32) -> Result<Stmt, ParseError> {
+#[tactic(auto, unfolding(crate::specs::Simple::lead))]
+fn raise_lead(alloc: Global, cursor: &mut Cursor<'_>, room: u32) -> Result<Stmt, ParseError>
+    ensures { Reads (spec.lead readers room spec.Raise cursor.old) result cursor.new }
+{
     if room < 2 {
         return Err(ParseError::Refused(Cause::TooDeep));
     }
@@ -220,13 +271,16 @@ fn raise_lead(alloc: Global, cursor: &mut Cursor<'_>, room: u32) -> Result<Stmt,
 }
 
 /// A comma and the text of `assert`, or nothing.
+#[tactic(auto, unfolding(crate::specs::Simple::message))]
 fn message(
     alloc: Global,
     cursor: &mut Cursor<'_>,
     room: u32,
     token: &Token,
     condition: Expr,
-) -> Result<Stmt, ParseError> {
+) -> Result<Stmt, ParseError>
+    ensures { Reads (spec.message readers room token.now condition cursor.old) result cursor.new }
+{
     if !cursor.sees_op(b",".as_slice()) {
         return Ok(Stmt::Assert(node_at(token), condition, None));
     }
@@ -239,7 +293,10 @@ fn message(
     ))
 }
 
-fn assert_lead(alloc: Global, cursor: &mut Cursor<'_>, room: u32) -> Result<Stmt, ParseError> {
+#[tactic(auto, unfolding(crate::specs::Simple::lead))]
+fn assert_lead(alloc: Global, cursor: &mut Cursor<'_>, room: u32) -> Result<Stmt, ParseError>
+    ensures { Reads (spec.lead readers room spec.Assert cursor.old) result cursor.new }
+{
     if room < 2 {
         return Err(ParseError::Refused(Cause::TooDeep));
     }
@@ -249,7 +306,10 @@ fn assert_lead(alloc: Global, cursor: &mut Cursor<'_>, room: u32) -> Result<Stmt
 }
 
 /// A statement that begins with an expression.
-fn value_lead(alloc: Global, cursor: &mut Cursor<'_>, room: u32) -> Result<Stmt, ParseError> {
+#[tactic(auto, unfolding(crate::specs::Simple::lead))]
+fn value_lead(alloc: Global, cursor: &mut Cursor<'_>, room: u32) -> Result<Stmt, ParseError>
+    ensures { Reads (spec.lead readers room spec.Value cursor.old) result cursor.new }
+{
     let first = read_expression(alloc, cursor, room.saturating_sub(1))?;
     let node = first.node();
     let fits = room >= 2 && first.height() <= room as usize - 2;
@@ -257,7 +317,10 @@ fn value_lead(alloc: Global, cursor: &mut Cursor<'_>, room: u32) -> Result<Stmt,
 }
 
 /// A simple statement that is at most `room` high. The cursor stands after it, or at the token that is refused.
-pub fn read_simple(alloc: Global, cursor: &mut Cursor<'_>, room: u32) -> Result<Stmt, ParseError> {
+#[tactic(auto, unfolding(crate::specs::Simple::simple, crate::specs::Simple::lead))]
+pub fn read_simple(alloc: Global, cursor: &mut Cursor<'_>, room: u32) -> Result<Stmt, ParseError>
+    ensures { Reads (spec.simple readers room cursor.old) result cursor.new }
+{
     match lead_of(cursor) {
         Lead::Pass => pass_lead(cursor),
         Lead::Break => break_lead(cursor),

@@ -1,4 +1,5 @@
-ghost use Rattle.std.specs.Prelude.{◌≡◌, ◌∷◌, ◌++◌, [], IfOk};
+ghost use Rattle.std.specs.Prelude.{◌≡◌, ◌∷◌, ◌++◌, [], IfOk, reverse};
+ghost use Rattle.parse_statements.specs.Settings.{turned};
 ghost use Rattle.grammar_rules.specs.Simple.{node_of_target, node_of_targets};
 ghost use Rattle.parse_statements.specs.Targets as spec;
 ghost use Rattle.parse_statements.specs.Heads.{one_target, several_targets};
@@ -85,7 +86,7 @@ pub fn one_target(tree: Expr) -> Option<Targets>
 
 /// The targets that the expressions are, from the last to the first, if each is one.
 fn targets_back(alloc: Global, items: Items<Expr>) -> Result<Option<Items<Target>>, AllocError>
-    ensures { IfOk result (λ o. o ≡ spec.targets_back [] items) }
+    ensures { IfOk result (λ o. o ≡ turned (spec.targets_of items)) }
 {
     let mut left = items;
     let mut targets = Items::new(alloc);
