@@ -8,7 +8,7 @@ ghost use Rattle.parse_statements.specs.Targets.{is_pointed, is_print, target_of
 ghost use Rattle.parse_statements.specs.Heads as spec;
 ghost use Rattle.parse_statements.specs.Code.{readers};
 
-use crate::items::read_items;
+use crate::row::read_items;
 use crate::operator::take_update;
 use crate::target::{is_pointed, is_print, node_of_target, node_of_targets, several_targets};
 use crate::token::{MOST_ITEMS, expect_word, sees_word};

@@ -4,23 +4,23 @@
 #![tactic(auto)]
 
 mod head;
-mod items;
 mod law;
 mod lead;
 mod line;
 mod operator;
 mod option;
 mod print;
+mod row;
 mod simple;
 mod stage;
 mod target;
 mod token;
 
-pub use items::read_items;
 pub use law::{law_of_lines, law_of_simple_statements};
 pub use lead::{Follow, Lead};
 pub use line::{read_line, starts_simple};
 pub use option::{Setting, read_options};
 pub use print::PrintOption;
+pub use row::read_items;
 pub use simple::read_simple;
 pub use token::{MOST_ITEMS, expect_newline, expect_word, sees_newline, sees_word, spells};

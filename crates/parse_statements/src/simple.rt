@@ -10,7 +10,7 @@ ghost use Rattle.parse_statements.specs.Heads as heads;
 ghost use Rattle.parse_statements.specs.Code.{readers};
 
 use crate::head::{assign, print_name, row_after, update};
-use crate::items::read_items;
+use crate::row::read_items;
 use crate::lead::{Follow, Lead, follow_of, lead_of};
 use crate::print::read_printed;
 use crate::stage::read_stages;
