@@ -154,6 +154,21 @@ impl<F: Fn(Global, &mut Cursor<'_>, u32) -> Result<Items<Stmt>, ParseError>> Blo
         Ok(Arm { condition, body })
     }
 
+    /// One more arm behind those that stand.
+    fn arm_turn(
+        &self,
+        cursor: &mut Cursor<'_>,
+        arms: Items<Arm>,
+    ) -> Result<Items<Arm>, ParseError>
+        requires { Subs self.now.room (F.pre self.now.sub) (F.post self.now.sub) }
+        ensures { Reads (and_then (spec.elif_arm readers self.now.room (spec.statement readers (self.now.room - 1)) cursor.old) (λ y. pure (arms ++ y ∷ []))) result cursor.new }
+    {
+        let arm = self.elif_arm(cursor)?;
+        let mut arms = arms;
+        arms.push(arm)?;
+        Ok(arms)
+    }
+
     /// The arms of `elif`.
     fn more_arms(&self, cursor: &mut Cursor<'_>) -> Result<Items<Arm>, ParseError>
         requires { Subs self.now.room (F.pre self.now.sub) (F.post self.now.sub) }
@@ -164,7 +179,7 @@ impl<F: Fn(Global, &mut Cursor<'_>, u32) -> Result<Items<Stmt>, ParseError>> Blo
             if !cursor.sees_keyword(b"elif".as_slice()) {
                 return Ok(arms);
             }
-            arms.push(self.elif_arm(cursor)?)?;
+            arms = self.arm_turn(cursor, arms)?;
         }
         Ok(arms)
     }

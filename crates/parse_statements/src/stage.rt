@@ -1,5 +1,5 @@
 ghost use Rattle.std.specs.Prelude.{◌≡◌, ◌∷◌, ◌++◌, [], true, length, IfOk, None, Some};
-ghost use Rattle.parse_laws.specs.Parser.{sees, has, repeat, row_turn};
+ghost use Rattle.parse_laws.specs.Parser.{sees, has, repeat, row_turn, and_then, pure};
 ghost use Rattle.parse_laws.specs.Loops.{row_test};
 ghost use Rattle.grammar_rules.specs.Words.{is_comma};
 ghost use Rattle.parse_expressions.specs.Code.{Reads};
@@ -298,6 +298,21 @@ fn stage(alloc: Global, cursor: &mut Cursor<'_>, room: u32) -> Result<Stage, Par
     Ok(Stage { node, joint, form })
 }
 
+/// One more stage behind those that stand.
+fn stage_turn(
+    alloc: Global,
+    cursor: &mut Cursor<'_>,
+    room: u32,
+    stages: Items<Stage>,
+) -> Result<Items<Stage>, ParseError>
+    ensures { Reads (and_then (spec.stage readers room cursor.old) (λ y. pure (stages ++ y ∷ []))) result cursor.new }
+{
+    let one = stage(alloc, cursor, room)?;
+    let mut stages = stages;
+    stages.push(one)?;
+    Ok(stages)
+}
+
 /// The stages that follow, as long as an operator stands.
 fn more_stages(
     alloc: Global,
@@ -311,7 +326,7 @@ fn more_stages(
         if !sees_joint(cursor) {
             return Ok(stages);
         }
-        stages.push(stage(alloc, cursor, room)?)?;
+        stages = stage_turn(alloc, cursor, room, stages)?;
     }
     Ok(stages)
 }
