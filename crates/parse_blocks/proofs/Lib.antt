@@ -12,3 +12,4 @@ pub mod Places
 pub mod Trees
 pub mod Texts
 pub mod Whole
+pub mod Levels
