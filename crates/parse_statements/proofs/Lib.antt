@@ -17,3 +17,4 @@ pub mod Leads
 pub mod Simples
 pub mod Lines
 pub mod Options
+pub mod Turned

@@ -1,6 +1,7 @@
 ghost use Rattle.std.specs.Prelude.{◌≡◌, ◌-◌, ◌∷◌, ◌++◌, [], true, length, IfOk, Some};
 ghost use Rattle.parse_laws.specs.Parser.{sees, repeat, row_turn};
 ghost use Rattle.parse_laws.specs.Loops.{row_test};
+ghost use Rattle.source_trees.specs.declared.expression.Commas.TheVariants.{Bare};
 ghost use Rattle.grammar_rules.specs.Expressions.{node_of};
 ghost use Rattle.grammar_rules.specs.Words.{is_comma};
 ghost use Rattle.parse_expressions.specs.Code.{Reads};

@@ -4,6 +4,7 @@ ghost use Rattle.grammar_rules.specs.Statements.{no_options, schedules};
 ghost use Rattle.grammar_rules.specs.Words.{is_comma, number_of, text_of, entry_of, entry};
 ghost use Rattle.parse_expressions.specs.Code.{Reads};
 ghost use Rattle.parse_statements.specs.Options as spec;
+ghost use Rattle.parse_statements.specs.declared.option.Setting.TheVariants as kinds;
 ghost use Rattle.parse_statements.specs.Settings.{set_by, Picked};
 ghost use Rattle.parse_statements.specs.Code.{ReadsFor};
 
@@ -84,7 +85,7 @@ fn schedule_in(word: &[u8]) -> Option<Schedule>
 
 /// These options with that many threads, where the token is a number from 1 on.
 fn with_threads(options: ParOptions, token: &Token) -> Option<ParOptions>
-    ensures { result ≡ set_by options Threads token.now }
+    ensures { result ≡ set_by options kinds.Threads token.now }
 {
     let TokenKind::Number(value) = token.kind else {
         return None;
@@ -100,7 +101,7 @@ fn with_threads(options: ParOptions, token: &Token) -> Option<ParOptions>
 
 /// These options with that chunk, where the token is a number from 1 to the greatest.
 fn with_chunk(options: ParOptions, token: &Token) -> Option<ParOptions>
-    ensures { result ≡ set_by options Chunk token.now }
+    ensures { result ≡ set_by options kinds.Chunk token.now }
 {
     let TokenKind::Number(value) = token.kind else {
         return None;
@@ -116,7 +117,7 @@ fn with_chunk(options: ParOptions, token: &Token) -> Option<ParOptions>
 
 /// These options with the schedule that the text names.
 fn with_schedule(options: ParOptions, token: &Token) -> Option<ParOptions>
-    ensures { result ≡ set_by options Schedule token.now }
+    ensures { result ≡ set_by options kinds.Schedule token.now }
 {
     let TokenKind::Text(value) = &token.kind else {
         return None;

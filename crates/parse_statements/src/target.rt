@@ -85,6 +85,7 @@ pub fn one_target(tree: Expr) -> Option<Targets>
 }
 
 /// The targets that the expressions are, from the last to the first, if each is one.
+#[tactic(auto, using(crate::proofs::Turned::turn_some, crate::proofs::Turned::turn_none, crate::proofs::Turned::begun, crate::proofs::Turned::ended))]
 fn targets_back(alloc: Global, items: Items<Expr>) -> Result<Option<Items<Target>>, AllocError>
     ensures { IfOk result (λ o. o ≡ turned (spec.targets_of items)) }
 {
@@ -103,6 +104,7 @@ fn targets_back(alloc: Global, items: Items<Expr>) -> Result<Option<Items<Target
 }
 
 /// These targets, from the last to the first.
+#[tactic(auto, using(crate::proofs::Turned::turned_on))]
 fn reversed(alloc: Global, targets: Items<Target>) -> Result<Items<Target>, AllocError>
     ensures { IfOk result (λ r. r ≡ reverse targets) }
 {
