@@ -18,3 +18,6 @@ pub mod Simples
 pub mod Lines
 pub mod Options
 pub mod Turned
+pub mod Goes
+pub mod Placed
+pub mod Piped

@@ -19,6 +19,7 @@ use std::alloc::Global;
 type OpenLine = (Items<Stmt>, bool);
 
 /// Whether a simple statement begins with the next token.
+#[tactic(auto, using(crate::proofs::Goes::sees_led))]
 pub fn starts_simple(cursor: &Cursor<'_>) -> bool
     ensures { result ≡ sees spec.starts_simple cursor.now }
 {

@@ -153,6 +153,7 @@ fn print_call(
 }
 
 /// The name `print` as a target, and what follows it.
+#[tactic(auto, using(crate::proofs::Goes::sees_goes))]
 fn print_target(
     alloc: Global,
     cursor: &mut Cursor<'_>,

@@ -1,7 +1,7 @@
-ghost use Rattle.std.specs.Prelude.{◌≡◌, ◌∷◌, ◌++◌, [], true, length, IfOk, None, Some};
+ghost use Rattle.std.specs.Prelude.{◌≡◌, ◌∷◌, ◌++◌, [], true, false, nat_lt, length, IfOk, None, Some};
 ghost use Rattle.parse_laws.specs.Parser.{sees, has, repeat, row_turn, and_then, pure};
 ghost use Rattle.parse_laws.specs.Loops.{row_test};
-ghost use Rattle.grammar_rules.specs.Words.{is_comma};
+ghost use Rattle.grammar_rules.specs.Words.{is_comma, most_items};
 ghost use Rattle.parse_expressions.specs.Code.{Reads};
 ghost use Rattle.parse_statements.specs.Stages as spec;
 ghost use Rattle.grammar_rules.specs.Simple.{joints};
@@ -56,27 +56,26 @@ impl Arguments {
         }
     }
 
-    /// How many are written, without the piped value.
-    fn written(&self) -> usize
-        ensures { result ≡ length (spec.filled self.now) }
-    {
-        self.before.len() + self.after.len()
-    }
-
     /// Whether one more written argument may follow.
-    fn takes_one(&self) -> bool {
+    #[tactic(auto, using(crate::proofs::Placed::written_is))]
+    fn takes_one(&self) -> bool
+        ensures { result ≡ nat_lt (length (spec.filled self.now)) most_items }
+    {
         self.before.len() <= MOST_ITEMS && self.after.len() < MOST_ITEMS - self.before.len()
     }
 
     /// Whether the piped value stands.
+    #[tactic(auto, using(crate::proofs::Placed::piped_is))]
     fn has_piped(&self) -> bool
         ensures { result ≡ spec.has_piped self.now }
     {
         self.is_placed
     }
 
-    /// Puts an argument at the end.
+    /// Puts an argument at the end. The piped value stands once at most.
+    #[tactic(auto, using(crate::proofs::Placed::push_before, crate::proofs::Placed::push_after, crate::proofs::Placed::push_piped, crate::proofs::Placed::piped_is))]
     fn push(self, item: Option<Expr>) -> Result<Arguments, AllocError>
+        requires { item ≡ None → spec.has_piped self ≡ false }
         ensures { IfOk result (λ r. r ≡ self ++ item ∷ []) }
     {
         let Arguments {
@@ -104,6 +103,7 @@ impl Arguments {
     }
 
     /// The call of this name with these arguments and the piped value between them, which comes first where it is not written.
+    #[tactic(auto, using(crate::proofs::Placed::cut_unplaced, crate::proofs::Placed::cut_placed))]
     fn called(self, alloc: Global, spelling: Spelling) -> StageForm
         ensures { result ≡ spec.called spelling self }
     {
@@ -154,12 +154,14 @@ fn goes_on(cursor: &Cursor<'_>, row: &OpenArguments) -> bool
 }
 
 /// An argument where one may follow, and else a comma.
+#[tactic(auto, using(crate::proofs::Piped::turn_piped))]
 fn argument_turn(
     alloc: Global,
     cursor: &mut Cursor<'_>,
     room: u32,
     row: OpenArguments,
 ) -> Result<OpenArguments, ParseError>
+    requires { sees (row_test is_comma spec.starts_argument row) cursor.old ≡ true }
     ensures { Reads (row_turn is_comma (λ _. spec.argument readers room) (λ v z. v ++ z ∷ []) row cursor.old) result cursor.new }
 {
     let (arguments, is_open) = row;
