@@ -13,3 +13,5 @@ pub mod Trees
 pub mod Texts
 pub mod Whole
 pub mod Levels
+pub mod Lower
+pub mod Reversed

@@ -294,6 +294,7 @@ impl<F: Fn(Global, &mut Cursor<'_>, u32) -> Result<Items<Stmt>, ParseError>> Blo
     }
 
     /// The loop under `@par`, which is one lower than this statement may be.
+    #[tactic(auto, using(crate::proofs::Lower::lower))]
     fn lower_loop(self, cursor: &mut Cursor<'_>) -> Result<For, ParseError>
         requires { Subs self.room (F.pre self.sub) (F.post self.sub) }
         ensures { Reads (spec.for_loop readers (self.room - 1) (spec.statement readers (self.room - 1 - 1)) cursor.old) result cursor.new }

@@ -30,6 +30,7 @@ use std::alloc::{AllocError, Global};
 const MOST_HEIGHT: u32 = 100;
 
 /// These statements, from the last to the first.
+#[tactic(auto, using(crate::proofs::Reversed::turned_on))]
 fn statements_back(alloc: Global, statements: Items<Stmt>) -> Result<Items<Stmt>, AllocError>
     ensures { IfOk result (λ r. r ≡ reverse statements) }
 {
@@ -45,6 +46,7 @@ fn statements_back(alloc: Global, statements: Items<Stmt>) -> Result<Items<Stmt>
 }
 
 /// These statements as items, behind those that stand.
+#[tactic(auto, using(crate::proofs::Reversed::items_on, crate::proofs::Reversed::twice))]
 fn push_statements(
     alloc: Global,
     items: Items<Item>,
