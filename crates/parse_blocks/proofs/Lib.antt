@@ -15,3 +15,4 @@ pub mod Whole
 pub mod Levels
 pub mod Lower
 pub mod Reversed
+pub mod Code

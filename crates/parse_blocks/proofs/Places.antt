@@ -68,7 +68,7 @@ empty_text : (a : List Token) (t : Token) → a ++ t ∷ [] ≡ [] → ⊥
 empty_text [] t h = cc
 empty_text (x ∷ a) t h = cc
 
-refused_rest : (ts : List Token) → IsText ts → (k : Cause) → Law Derives DerivesLow any ts (Stopped k []) → ⊥
+pub refused_rest : (ts : List Token) → IsText ts → (k : Cause) → Law Derives DerivesLow any ts (Stopped k []) → ⊥
 refused_rest ts text k l =
     let same : ts ≡ l.used = l.whole ∙ append-nil l.used in
     let go : (us : List Token) → ts ≡ us → Viable DerivesLow us → ⊥ = λ us e v.
@@ -84,14 +84,18 @@ refused_rest ts text k l =
     ] in
     some l.used same l.viable
 
-refused_place : (ts : List Token) (k : Cause) (t : Token) (r : List Token) → Law Derives DerivesLow any ts (Stopped k (t ∷ r)) → HasPlace ts
-refused_place ts k t r l =
+pub place_here : (ts : List Token) (k : Cause) (t : Token) (r : List Token) → Law Derives DerivesLow any ts (Stopped k (t ∷ r))
+    → IsParsePlace ts (record { kind = kind_of k t; token = length ts - length (t ∷ r); at = t.span })
+place_here ts k t r l =
     let n = length ts - length (t ∷ r) in
     let e : length ts ≡ length l.used + length (t ∷ r) = ap length l.whole ∙ length-append l.used (t ∷ r) in
     let at : length l.used ≡ n = omega arith in
     let f = first_bad Derives DerivesLow nonempty ts k (t ∷ r) (omega arith) l in
     let here : slice_get ts n ≡ Some t = ap (slice_get ts) (sym at) ∙ ap (λ z. slice_get z (length l.used)) l.whole ∙ slice_here l.used t r in
-    (record { kind = kind_of k t; token = n; at = t.span }, (k, t, here, refl, refl, f))
+    (k, t, here, refl, refl, f)
+
+refused_place : (ts : List Token) (k : Cause) (t : Token) (r : List Token) → Law Derives DerivesLow any ts (Stopped k (t ∷ r)) → HasPlace ts
+refused_place ts k t r l = (record { kind = kind_of k t; token = length ts - length (t ∷ r); at = t.span }, place_here ts k t r l)
 
 stopped_place : (ts : List Token) → IsText ts → (k : Cause) (us : List Token) → Law Derives DerivesLow any ts (Stopped k us) → HasTree ts ⊎ HasPlace ts
 stopped_place ts text k [] l = absurd (refused_rest ts text k l)
@@ -102,6 +106,13 @@ parsed_tree r ts m us e l =
     let none : us ≡ [] = source_rest r ts m us e in
     let P : List Token → Type 0 = λ z. Law Derives DerivesLow any ts (Parsed m z) in
     inl (m, (only_value Derives DerivesLow ts m (subst P none l)).0)
+
+pub tree_here : (r : Readers) → Exact r → (ts : List Token) (m : Module) (us : List Token) → reading.source r ts ≡ Parsed m us → DerivesLow ts m
+tree_here r exact ts m us e =
+    let P : Outcome Token Module → Type 0 = λ o. Law Derives DerivesLow any ts o in
+    let none : us ≡ [] = source_rest r ts m us e in
+    let Q : List Token → Type 0 = λ z. Law Derives DerivesLow any ts (Parsed m z) in
+    (only_value Derives DerivesLow ts m (subst Q none (subst P e (source_law r exact ts)))).0
 
 pub decided : (r : Readers) → Exact r → (ts : List Token) → IsText ts → HasTree ts ⊎ HasPlace ts
 decided r exact ts text =
