@@ -16,3 +16,4 @@ pub mod Levels
 pub mod Lower
 pub mod Reversed
 pub mod Code
+pub mod Answered

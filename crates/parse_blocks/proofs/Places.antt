@@ -84,6 +84,12 @@ refused_rest ts text k l =
     ] in
     some l.used same l.viable
 
+pub slice_left : (ts used : List Token) (t : Token) (r : List Token) → ts ≡ used ++ t ∷ r → slice_get ts (length ts - length (t ∷ r)) ≡ Some t
+slice_left ts used t r w =
+    let e : length ts ≡ length used + length (t ∷ r) = ap length w ∙ length-append used (t ∷ r) in
+    let at : length used ≡ length ts - length (t ∷ r) = omega arith in
+    ap (slice_get ts) (sym at) ∙ ap (λ z. slice_get z (length used)) w ∙ slice_here used t r
+
 pub place_here : (ts : List Token) (k : Cause) (t : Token) (r : List Token) → Law Derives DerivesLow any ts (Stopped k (t ∷ r))
     → IsParsePlace ts (record { kind = kind_of k t; token = length ts - length (t ∷ r); at = t.span })
 place_here ts k t r l =
@@ -91,8 +97,7 @@ place_here ts k t r l =
     let e : length ts ≡ length l.used + length (t ∷ r) = ap length l.whole ∙ length-append l.used (t ∷ r) in
     let at : length l.used ≡ n = omega arith in
     let f = first_bad Derives DerivesLow nonempty ts k (t ∷ r) (omega arith) l in
-    let here : slice_get ts n ≡ Some t = ap (slice_get ts) (sym at) ∙ ap (λ z. slice_get z (length l.used)) l.whole ∙ slice_here l.used t r in
-    (k, t, here, refl, refl, f)
+    (k, t, slice_left ts l.used t r l.whole, refl, refl, f)
 
 refused_place : (ts : List Token) (k : Cause) (t : Token) (r : List Token) → Law Derives DerivesLow any ts (Stopped k (t ∷ r)) → HasPlace ts
 refused_place ts k t r l = (record { kind = kind_of k t; token = length ts - length (t ∷ r); at = t.span }, place_here ts k t r l)

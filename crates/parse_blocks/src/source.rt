@@ -229,6 +229,7 @@ fn refusal(tokens: &[Token], left: usize, cause: Cause) -> ParseRefusal
 }
 
 /// The tree of a whole source, whose nodes have the number 0, or the first bad token.
+#[tactic(auto, using(crate::proofs::Answered::tree_is, crate::proofs::Answered::place_is))]
 pub fn read_source(alloc: Global, tokens: &[Token]) -> Result<Module, Or<ParseRefusal>>
     ensures tree { IfOk result (λ m. DerivesLow tokens.now m) }
     ensures refusal { IsText tokens.now → length tokens.now < 2 ^ 32 → IfErr result (IsPlaceOf tokens.now) }
