@@ -81,11 +81,7 @@ impl<F: Fn(Global, &mut Cursor<'_>, u32) -> Result<Items<Stmt>, ParseError>> Blo
     }
 
     /// One more statement behind those that stand.
-    fn turn(
-        &self,
-        cursor: &mut Cursor<'_>,
-        body: Items<Stmt>,
-    ) -> Result<Items<Stmt>, ParseError>
+    fn turn(&self, cursor: &mut Cursor<'_>, body: Items<Stmt>) -> Result<Items<Stmt>, ParseError>
         requires { Subs self.now.room (F.pre self.now.sub) (F.post self.now.sub) }
         ensures { Reads (and_then (spec.statement readers (self.now.room - 1) cursor.old) (λ ys. pure (body ++ ys))) result cursor.new }
     {
@@ -96,11 +92,7 @@ impl<F: Fn(Global, &mut Cursor<'_>, u32) -> Result<Items<Stmt>, ParseError>> Blo
     }
 
     /// The statements behind those that stand.
-    fn rest(
-        &self,
-        cursor: &mut Cursor<'_>,
-        first: Items<Stmt>,
-    ) -> Result<Items<Stmt>, ParseError>
+    fn rest(&self, cursor: &mut Cursor<'_>, first: Items<Stmt>) -> Result<Items<Stmt>, ParseError>
         requires { Subs self.now.room (F.pre self.now.sub) (F.post self.now.sub) }
         ensures { Reads (gather spec.starts_stmt (spec.statement readers (self.now.room - 1)) first cursor.old) result cursor.new }
     {
@@ -155,11 +147,7 @@ impl<F: Fn(Global, &mut Cursor<'_>, u32) -> Result<Items<Stmt>, ParseError>> Blo
     }
 
     /// One more arm behind those that stand.
-    fn arm_turn(
-        &self,
-        cursor: &mut Cursor<'_>,
-        arms: Items<Arm>,
-    ) -> Result<Items<Arm>, ParseError>
+    fn arm_turn(&self, cursor: &mut Cursor<'_>, arms: Items<Arm>) -> Result<Items<Arm>, ParseError>
         requires { Subs self.now.room (F.pre self.now.sub) (F.post self.now.sub) }
         ensures { Reads (and_then (spec.elif_arm readers self.now.room (spec.statement readers (self.now.room - 1)) cursor.old) (λ y. pure (arms ++ y ∷ []))) result cursor.new }
     {

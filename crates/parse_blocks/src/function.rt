@@ -40,11 +40,7 @@ fn marked(
 
 /// `=` and the default of a parameter, or nothing.
 #[tactic(auto, unfolding(crate::specs::Functions::default))]
-fn default(
-    alloc: Global,
-    cursor: &mut Cursor<'_>,
-    room: u32,
-) -> Result<Option<Expr>, ParseError>
+fn default(alloc: Global, cursor: &mut Cursor<'_>, room: u32) -> Result<Option<Expr>, ParseError>
     ensures { Reads (spec.default readers room cursor.old) result cursor.new }
 {
     if !cursor.sees_op(b"=".as_slice()) {

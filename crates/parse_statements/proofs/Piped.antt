@@ -22,7 +22,7 @@ unfolding argument
 turn_piped n s ts rest h k =
     let P : Bool → Type 0 = λ b. cond b (and_then (expect is_dots ts) (λ _. pure None)) (and_then (read n Whole ts) (λ x. pure (Some x))) ≡ Parsed None rest in
     let go : (x : Bool) → sees is_dots ts ≡ x → has_piped s ≡ false = elim [
-      true ↦ λ e. not_true (has_piped s) ((starts_tells s ts h).0 e)
-    | false ↦ λ e. no_value (read n Whole ts) rest (subst P e k) (has_piped s ≡ false)
+      | true ↦ λ e. not_true (has_piped s) ((starts_tells s ts h).0 e)
+      | false ↦ λ e. no_value (read n Whole ts) rest (subst P e k) (has_piped s ≡ false)
     ] in
     go (sees is_dots ts) refl

@@ -9,8 +9,8 @@ ghost use Rattle.parse_statements.specs.Targets.{is_pointed, is_print, target_of
 ghost use Rattle.parse_statements.specs.Heads as spec;
 ghost use Rattle.parse_statements.specs.Code.{readers};
 
-use crate::row::read_items;
 use crate::operator::take_update;
+use crate::row::read_items;
 use crate::target::{is_pointed, is_print, node_of_target, node_of_targets, several_targets};
 use crate::token::{MOST_ITEMS, expect_word, sees_word};
 use parse_expressions::{Cursor, Measured, ParseError, node_at, read_expression, read_target};

@@ -10,9 +10,9 @@ ghost use Rattle.parse_statements.specs.Heads as heads;
 ghost use Rattle.parse_statements.specs.Code.{readers};
 
 use crate::head::{assign, print_name, row_after, update};
-use crate::row::read_items;
 use crate::lead::{Follow, Lead, follow_of, lead_of};
 use crate::print::read_printed;
+use crate::row::read_items;
 use crate::stage::read_stages;
 use crate::target::{is_print, one_target, target_of};
 use crate::token::expect_word;
@@ -170,7 +170,14 @@ fn print_target(
     }
     let spelling = Items::from_slice(alloc, b"print".as_slice())?;
     let node = node_at(token);
-    tail(alloc, cursor, room, node, Expr::Name(node, spelling), room >= 3)
+    tail(
+        alloc,
+        cursor,
+        room,
+        node,
+        Expr::Name(node, spelling),
+        room >= 3,
+    )
 }
 
 /// A statement that begins with the name `print`.
@@ -287,11 +294,7 @@ fn message(
     }
     cursor.expect_op(b",".as_slice())?;
     let text = read_expression(alloc, cursor, room.saturating_sub(1))?;
-    Ok(Stmt::Assert(
-        node_at(token),
-        condition,
-        Some(text.into_tree()),
-    ))
+    Ok(Stmt::Assert(node_at(token), condition, Some(text.into_tree())))
 }
 
 #[tactic(auto, unfolding(crate::specs::Simple::lead))]

@@ -125,11 +125,7 @@ type OpenArguments = (Arguments, bool);
 
 /// An argument: an expression, or none where `...` stands.
 #[tactic(auto, unfolding(crate::specs::Stages::argument))]
-fn argument(
-    alloc: Global,
-    cursor: &mut Cursor<'_>,
-    room: u32,
-) -> Result<Option<Expr>, ParseError>
+fn argument(alloc: Global, cursor: &mut Cursor<'_>, room: u32) -> Result<Option<Expr>, ParseError>
     ensures { Reads (spec.argument readers room cursor.old) result cursor.new }
 {
     if cursor.sees_op(b"...".as_slice()) {
@@ -243,11 +239,7 @@ fn call_stage(
 }
 
 #[tactic(auto, unfolding(crate::specs::Stages::print_stage))]
-fn print_stage(
-    alloc: Global,
-    cursor: &mut Cursor<'_>,
-    room: u32,
-) -> Result<StageForm, ParseError>
+fn print_stage(alloc: Global, cursor: &mut Cursor<'_>, room: u32) -> Result<StageForm, ParseError>
     ensures { Reads (spec.print_stage readers room cursor.old) result cursor.new }
 {
     cursor.expect_op(b"(".as_slice())?;
