@@ -21,3 +21,4 @@ pub mod Turned
 pub mod Goes
 pub mod Placed
 pub mod Piped
+pub mod Pushed

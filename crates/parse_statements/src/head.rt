@@ -58,6 +58,7 @@ impl Heads {
     }
 
     /// Puts an item at the end.
+    #[tactic(auto, using(crate::proofs::Pushed::pointed_push, crate::proofs::Pushed::print_push))]
     fn push(self, item: Expr) -> Result<Heads, AllocError>
         ensures { IfOk result (λ r. r ≡ self ++ item ∷ []) }
     {
