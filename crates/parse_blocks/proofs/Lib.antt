@@ -17,3 +17,4 @@ pub mod Lower
 pub mod Reversed
 pub mod Code
 pub mod Answered
+pub mod Counted

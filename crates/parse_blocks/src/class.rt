@@ -19,7 +19,7 @@ use sqlite_items::Items;
 use std::alloc::{AllocError, Global};
 use std::marker::Model;
 
-/// The members of a class, and how many of them are fields. Contracts see the list of them.
+/// The members of a class, and how many of them are fields, up to the greatest number of its type. Contracts see the list of them.
 #[derive(Drop)]
 pub struct Members {
     items: Items<Member>,
@@ -27,7 +27,8 @@ pub struct Members {
 }
 
 impl Model for Members {
-    ghost use Rattle.std.specs.Prelude.{◌≡◌, List};
+    ghost use Rattle.std.specs.Prelude.{◌≡◌, min, List};
+    ghost use Rattle.std.below.core.specs.declared.int.usize.TheConstants.{MAX};
     ghost use Rattle.source_trees.specs.declared.item.Member.{Member};
     ghost use Rattle.source_trees.specs.contracts.item.Member as e;
     ghost use Rattle.std.specs.Coded.{codes};
@@ -39,7 +40,7 @@ impl Model for Members {
 
     ghost view = { λ m. m.items };
 
-    ghost invariant = { λ m. m.fields ≡ fields_among m.items };
+    ghost invariant = { λ m. m.fields ≡ min (fields_among m.items) MAX };
 }
 
 impl Members {
@@ -60,6 +61,7 @@ impl Members {
     }
 
     /// Puts a member at the end.
+    #[tactic(auto, using(crate::proofs::Counted::fields_push))]
     fn push(self, member: Member) -> Result<Members, AllocError>
         ensures { IfOk result (λ r. r ≡ self ++ member ∷ []) }
     {
