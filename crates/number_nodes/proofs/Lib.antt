@@ -1,2 +1,4 @@
 pub mod Taking
 pub mod Reaching
+pub mod BareForms
+pub mod AnnotationForms

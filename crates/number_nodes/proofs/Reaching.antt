@@ -4,11 +4,7 @@ use Rattle.std.proofs.lemmas.List.{append-nil, map-append, reverse-append, rever
 use Rattle.source_trees.specs.declared.node.Node.{Node}
 use Rattle.source_trees.specs.Nodes.{AreNumberedFrom, joined}
 use Rattle.number_nodes.specs.Numbers.{Numbers, NumbersAll}
-use Rattle.number_nodes.proofs.Taking.{Takes, takes, takes_both, takes_same, takes_last}
-
-pub numbers_by : {A : Type 0} {bare_part : A → A} {nodes : A → List Node} {first : ℕ} {old new : A} {next : ℕ}
-    → bare_part new ≡ bare_part old → Takes first (nodes new) next → Numbers bare_part nodes first old new next
-numbers_by same h = record { same = same; numbered = h.numbered; next_is = h.next_is }
+use Rattle.number_nodes.proofs.Taking.{takes, numbers_by, takes_both, takes_same}
 
 module _ {A : Type 0} (bare_part : A → A) (nodes : A → List Node) where
   pub joined_more : (xs : List A) (x : A) → joined (map nodes (xs ++ x ∷ [])) ≡ joined (map nodes xs) ++ nodes x
@@ -23,7 +19,7 @@ module _ {A : Type 0} (bare_part : A → A) (nodes : A → List Node) where
 
   pub numbers_more : (first : ℕ) (old new : List A) (middle : ℕ) (x y : A) (next : ℕ) → NumbersAll bare_part nodes first old new middle → Numbers bare_part nodes middle x y next → NumbersAll bare_part nodes first (old ++ x ∷ []) (new ++ y ∷ []) next
   numbers_more first old new middle x y next whole last =
-      numbers_by (same_more old new x y whole.same last.same) (takes_same (takes_both first (joined (map nodes new)) middle (nodes y) next (takes whole) (takes last)) (joined_more new y))
+      numbers_by (same_more old new x y whole.same last.same) (takes_same (takes_both (takes whole) (takes last)) (joined_more new y))
 
   -- those in front have their numbers
   pub record Reaches (first : ℕ) (all rest new : List A) (next : ℕ) : Type 0 where
