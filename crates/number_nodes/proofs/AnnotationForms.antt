@@ -58,4 +58,3 @@ annotation_Tuple {whole} {n} {m} {items} {items'} {first} {a} {next} is own its_
     let old = ap bare_annotation is ∙ bare.annotation_Tuple n items in
     let new = bare.annotation_Tuple m items' in
     numbers_by (cc) (takes_same (takes_node own (takes its_items)) (parts.annotation_Tuple before_parts m items'))
-

@@ -231,4 +231,3 @@ arm_is arm = fold_out-Arm Stmt Arm For stmt_step arm_step for_step arm
 pub for_is : (loop : For) → bare_for loop ≡ record { node = bare loop.node; names = bare_loop_names loop.names; iterable = bare_expr loop.iterable; body = map bare_stmt loop.body }
 unfolding bare_stmt bare_arm bare_for
 for_is loop = fold_out-For Stmt Arm For stmt_step arm_step for_step loop
-

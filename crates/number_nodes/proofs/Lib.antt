@@ -2,3 +2,8 @@ pub mod Taking
 pub mod Reaching
 pub mod BareForms
 pub mod AnnotationForms
+pub mod ExprForms
+pub mod TargetForms
+pub mod PipelineForms
+pub mod StatementForms
+pub mod ItemForms

@@ -94,7 +94,8 @@ pub(crate) fn number_expr(alloc: Global, next: &mut u64, expr: Expr) -> Result<E
             let node = number_node(next, node)?;
             let object = number_boxed(alloc, next, object)?;
             let from = number_optional(alloc, next, from)?;
-            Ok(Expr::Slice(node, object, from, number_optional(alloc, next, to)?))
+            let to = number_optional(alloc, next, to)?;
+            Ok(Expr::Slice(node, object, from, to))
         }
         Expr::Field(node, object, name) => {
             let node = number_node(next, node)?;
