@@ -12,10 +12,11 @@ use Rattle.source_trees.specs.declared.item.Member.TheVariants as member
 use Rattle.source_trees.specs.declared.item.Class.{Class}
 use Rattle.source_trees.specs.declared.item.Item.{Item}
 use Rattle.source_trees.specs.declared.item.Item.TheVariants as item
+use Rattle.source_trees.specs.declared.item.Module.{Module as Source}
 use Rattle.source_trees.specs.Parts.{of_optional_annotation, of_optional_expr}
 use Rattle.source_trees.specs.Nodes.{before_parts, nodes_of_param, nodes_of_stmt}
-use Rattle.source_trees.specs.Bare.{bare, bare_name, bare_annotation, bare_optional, bare_function, bare_member, bare_class, bare_item, bare_stmt}
-use Rattle.number_nodes.specs.Numbers.{NumbersNode, NumbersName, NumbersOptionalExpr, NumbersAnnotation, NumbersOptionalAnnotation, NumbersStmt, NumbersStmts, NumbersParam, NumbersParams, NumbersFunction, NumbersMember, NumbersMembers, NumbersClass, NumbersItem}
+use Rattle.source_trees.specs.Bare.{bare, bare_name, bare_annotation, bare_optional, bare_function, bare_member, bare_class, bare_item, bare_module, bare_stmt}
+use Rattle.number_nodes.specs.Numbers.{NumbersNode, NumbersName, NumbersOptionalExpr, NumbersAnnotation, NumbersOptionalAnnotation, NumbersStmt, NumbersStmts, NumbersParam, NumbersParams, NumbersFunction, NumbersMember, NumbersMembers, NumbersClass, NumbersItem, NumbersItems}
 use Rattle.number_nodes.proofs.Taking.{takes, numbers_by, takes_none, takes_node, takes_both, takes_last, takes_parts}
 
 pub member_Field : {whole : Member} {n m : Node} {name name' : Name} {type type' : Annotation} {first a b next : ℕ}
@@ -78,3 +79,6 @@ pub class : (old : Class) {n : Node} {name : Name} {members : List Member} {firs
     → NumbersNode first old.node n a → NumbersName a old.name name b → NumbersMembers b old.members members next
     → NumbersClass first old (record { node = n; name = name; members = members }) next
 class old {n} {name} {members} {first} {a} {b} {next} own its_name its_members = numbers_by (cc) (takes_node own (takes_both (takes its_name) (takes its_members)))
+
+pub module_same : (old : Source) {items : List Item} {first next : ℕ} → NumbersItems first old.items items next → bare_module (record { items = items }) ≡ bare_module old
+module_same old h = let same = h.same in cc

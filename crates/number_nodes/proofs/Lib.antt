@@ -7,3 +7,7 @@ pub mod TargetForms
 pub mod PipelineForms
 pub mod StatementForms
 pub mod ItemForms
+pub mod ExprHeights
+pub mod AnnotationHeights
+pub mod StatementHeights
+pub mod ModuleHeights
