@@ -62,8 +62,8 @@ fn number_stage_form(alloc: Global, next: &mut u64, form: StageForm) -> Result<S
 fn number_stage(alloc: Global, next: &mut u64, stage: Stage) -> Result<Stage, Memory>
     ensures { IfOk result (λ numbered. NumbersStage next.old stage numbered next.new) }
 {
-    let Stage { node, joint, form } = stage;
-    let node = number_node(next, node)?;
+    let node = number_node(next, stage.node)?;
+    let Stage { joint, form, .. } = stage;
     Ok(Stage {
         node,
         joint,

@@ -4,8 +4,8 @@ ghost use Rattle.number_nodes.specs.Numbers.{NumbersLoopNames, NumbersNames, Num
 use crate::expression::number_expr;
 use crate::node::{number_name, number_node};
 use crate::turned::turned;
-use codon_base::Memory;
-use source_trees::{LoopNames, Name, Target, Targets};
+use codon_base::{Memory, Spelling};
+use source_trees::{Expr, LoopNames, Name, Node, Target, Targets};
 use sqlite_items::Items;
 use std::alloc::Global;
 
@@ -33,20 +33,48 @@ pub(crate) fn number_loop_names(
     }
 }
 
-pub(crate) fn number_target(alloc: Global, next: &mut u64, target: Target) -> Result<Target, Memory>
+/// `object[index]`
+fn number_place(
+    alloc: Global,
+    next: &mut u64,
+    node: Node,
+    object: Expr,
+    index: Expr,
+) -> Result<Target, Memory>
+    ensures { IfOk result (λ numbered. NumbersTarget next.old (Target.Index node object index) numbered next.new) }
+{
+    let node = number_node(next, node)?;
+    let object = number_expr(alloc, next, object)?;
+    let index = number_expr(alloc, next, index)?;
+    Ok(Target::Index(node, object, index))
+}
+
+/// `object.name`
+fn number_field(
+    alloc: Global,
+    next: &mut u64,
+    node: Node,
+    object: Expr,
+    name: Spelling,
+) -> Result<Target, Memory>
+    ensures { IfOk result (λ numbered. NumbersTarget next.old (Target.Field node object name) numbered next.new) }
+{
+    let node = number_node(next, node)?;
+    let object = number_expr(alloc, next, object)?;
+    Ok(Target::Field(node, object, name))
+}
+
+pub(crate) fn number_target(
+    alloc: Global,
+    next: &mut u64,
+    target: Target,
+) -> Result<Target, Memory>
     ensures { IfOk result (λ numbered. NumbersTarget next.old target numbered next.new) }
 {
     match target {
         Target::Name(node, spelling) => Ok(Target::Name(number_node(next, node)?, spelling)),
-        Target::Index(node, object, index) => {
-            let node = number_node(next, node)?;
-            let object = number_expr(alloc, next, object)?;
-            Ok(Target::Index(node, object, number_expr(alloc, next, index)?))
-        }
-        Target::Field(node, object, name) => {
-            let node = number_node(next, node)?;
-            Ok(Target::Field(node, number_expr(alloc, next, object)?, name))
-        }
+        Target::Index(node, object, index) => number_place(alloc, next, node, object, index),
+        Target::Field(node, object, name) => number_field(alloc, next, node, object, name),
     }
 }
 

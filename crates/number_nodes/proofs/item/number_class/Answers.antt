@@ -1,5 +1,5 @@
 use Rattle.number_nodes.proofs.ItemForms as form
 use Rattle.number_nodes.proofs.item.number_class.Goals as goal
 
-pub returns-in_ok-members : goal.returns-in_ok-members
-returns-in_ok-members c = form.class c.args.class c.in_ok-node.ensures c.in_ok-name.ensures c.in_ok-members.ensures
+pub returns : goal.returns
+returns c = form.class c.args.class c.in_ok-node.ensures c.in_ok-name.ensures c.in_ok-members.ensures

@@ -1,5 +1,5 @@
 use Rattle.number_nodes.proofs.PipelineForms as form
 use Rattle.number_nodes.proofs.pipeline.number_printed.Goals as goal
 
-pub returns-in_ok-number_print_options : goal.returns-in_ok-number_print_options
-returns-in_ok-number_print_options c = form.printed c.args.printed c.in_ok-values.ensures c.in_ok-number_print_options.ensures
+pub returns : goal.returns
+returns c = form.printed c.args.printed c.in_ok-values.ensures c.in_ok-number_print_options.ensures

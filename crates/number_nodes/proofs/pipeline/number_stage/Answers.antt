@@ -1,5 +1,5 @@
 use Rattle.number_nodes.proofs.PipelineForms as form
 use Rattle.number_nodes.proofs.pipeline.number_stage.Goals as goal
 
-pub returns-in_ok-number_stage_form : goal.returns-in_ok-number_stage_form
-returns-in_ok-number_stage_form c = form.stage c.args.stage c.in_ok-node.ensures c.in_ok-number_stage_form.ensures
+pub returns : goal.returns
+returns c = form.stage c.args.stage c.in_ok-node.ensures c.in_ok-number_stage_form.ensures

@@ -61,5 +61,5 @@ number_stmts-stmts-preserved t c = reaches_more bare_stmt nodes_of_stmt c.stmts.
 pub number_arms-arms-preserved : goal.number_arms-arms-preserved
 number_arms-arms-preserved t c = reaches_more bare_arm nodes_of_arm c.arms.invariant c.in-Some.ensures (form.arm c.in-Some.field-0 c.in_ok-condition.ensures c.in_ok-body.ensures) c.in_ok-push.ensures.ok
 
-pub number_for-returns-in_ok-body : goal.number_for-returns-in_ok-body
-number_for-returns-in_ok-body t c = form.for_loop c.args.each c.in_ok-node.ensures c.in_ok-names.ensures c.in_ok-iterable.ensures c.in_ok-body.ensures
+pub number_for-returns : goal.number_for-returns
+number_for-returns t c = form.for_loop c.args.each c.in_ok-node.ensures c.in_ok-names.ensures c.in_ok-iterable.ensures c.in_ok-body.ensures
