@@ -64,11 +64,7 @@ fn number_field(
     Ok(Target::Field(node, object, name))
 }
 
-pub(crate) fn number_target(
-    alloc: Global,
-    next: &mut u64,
-    target: Target,
-) -> Result<Target, Memory>
+pub(crate) fn number_target(alloc: Global, next: &mut u64, target: Target) -> Result<Target, Memory>
     ensures { IfOk result (λ numbered. NumbersTarget next.old target numbered next.new) }
 {
     match target {
