@@ -1,7 +1,11 @@
 -- Calls of methods by what stands at the address of the object.
-use Rattle.std.proofs.Common.{◌≡◌, ℕ, false, if◌then◌else◌, List, [], ◌∷◌, Option, Some, None, refl, sym, ap, ◌∙◌}
-use Rattle.std.specs.Prelude.{slice_get, option_map}
-use Rattle.std.proofs.lemmas.Option.{slice_get-map}
+use Rattle.std.proofs.Common.{◌≡◌, ℕ, false, if◌then◌else◌, List, [], ◌∷◌, length, Option, Some, None, refl, sym, ap, ◌∙◌}
+use Rattle.std.specs.Prelude.{slice_get, option_map, codes}
+use Rattle.std.specs.Option.{option_copied}
+use Rattle.std.specs.Slice.{IsItemAt}
+use Rattle.std.specs.Borrow.{Bor}
+use Rattle.std.proofs.lemmas.Option.{slice_get-map, slice_get_past, slice_get_read}
+use Rattle.codon_base.specs.declared.fault.FaultKind.TheVariants as fault
 use Rattle.source_trees.specs.declared.item.Function.{Function}
 use Rattle.source_trees.specs.declared.item.Class.{Class}
 use Rattle.codon_base.specs.declared.value.Ref.{Ref}
@@ -9,7 +13,7 @@ use Rattle.codon_base.specs.declared.value.Value.{Value, out-Value}
 use Rattle.codon_base.specs.declared.object.Object.{Object}
 use Rattle.codon_base.specs.declared.object.Object.TheVariants.{List as Listed, Instance}
 use Rattle.codon_base.specs.Levels.{object_at}
-use Rattle.source_meaning.specs.State.{Spelling, State}
+use Rattle.source_meaning.specs.State.{Spelling, State, Faulted}
 use Rattle.source_meaning.specs.Outcome.{Outcome, Gives, Stops, Run, and_then, bind, pure, stop, look, wrong, ◌>>=◌}
 use Rattle.source_meaning.specs.Objects.{one_of, ref_in, object, instance_in}
 use Rattle.source_meaning.specs.Operations.{list_method}
@@ -17,9 +21,9 @@ use Rattle.source_meaning.specs.Program.{Known, function_named, methods_of}
 use Rattle.source_meaning.specs.Bodies.{yields}
 use Rattle.source_meaning.specs.Task.{Setting}
 use Rattle.source_meaning.specs.Calls.{call, method_of}
-use Rattle.source_meaning.specs.Loops.{Iterable}
+use Rattle.source_meaning.specs.Loops.{Iterable, Items}
 use Rattle.source_meaning.specs.Expressions.{method_on, call_method, iterable_on, iterable_method, generated_by, items_of}
-use Rattle.source_meaning.specs.Kinds.{kind_of, found_method}
+use Rattle.source_meaning.specs.Kinds.{kind_of, found_method, told, called_on, goes_over_on}
 use Rattle.source_meaning.specs.Tasks.{program_of}
 use Rattle.source_meaning.specs.Callees.{functions_in}
 use Rattle.source_meaning.specs.declared.prepared.KnownClass.{KnownClass}
@@ -27,10 +31,11 @@ use Rattle.source_meaning.specs.declared.prepared.Prepared.{Prepared}
 use Rattle.source_meaning.specs.declared.methods.Kind.{Kind}
 use Rattle.source_meaning.specs.declared.methods.Kind.TheVariants as kind
 
--- the method of a class that is known
-abbrev told : Option Function → Run Known
-told o = one_of o >>= λ f. pure (record { function = f; in_prelude = false })
+pub copied_at : (xs : List KnownClass) (i : ℕ) (r : Option (Bor KnownClass)) → IsItemAt xs i r → option_copied r ≡ slice_get xs i
+copied_at xs i None h = sym (slice_get_past xs i h.3)
+copied_at xs i (Some x) h = sym (slice_get_read xs (length xs) i x.now refl h.3.0 h.1)
 
+-- the method of a class that is known
 abbrev in_class : Spelling → Option Class → Run Known
 in_class name o = one_of o >>= λ c. told (function_named name (methods_of c))
 
@@ -40,7 +45,7 @@ found_known p class name c s h =
     ap (λ (o : Option Class). in_class name o s) (slice_get-map (λ c. c.class.now) p.classes.items class ∙ ap (option_map (λ c. c.class.now)) h)
     ∙ ap (λ (fs : List Function). told (function_named name fs) s) (sym c.has_methods)
 
-pub found_unknown : (p : Prepared) (class : ℕ) (name : Spelling) (s : State) → slice_get p.classes.items class ≡ None → found_method (program_of p) class name s ≡ wrong s
+pub found_unknown : (p : Prepared) (class : ℕ) (name : Spelling) (s : State) → slice_get p.classes.items class ≡ None → found_method (program_of p) class name s ≡ Stops (Faulted (record { kind = fault.Runtime; text = codes "wrong kind" })) s
 unfolding bind program_of stop
 found_unknown p class name s h = ap (λ (o : Option Class). in_class name o s) (slice_get-map (λ c. c.class.now) p.classes.items class ∙ ap (option_map (λ c. c.class.now)) h)
 
@@ -88,7 +93,7 @@ module _ (here : Setting) (v : Value) (at : Ref) (name : Spelling) (given : List
       by (Some (Instance class fields)) h = cc
       by None h = cc
 
-  pub on_instance : (class : ℕ) → kind_of there ≡ kind.Instance class → call_method here v name given s ≡ and_then (found_method here.program class name s) (λ known. call here known (v ∷ given))
+  pub on_instance : (class : ℕ) → kind_of there ≡ kind.Instance class → call_method here v name given s ≡ called_on here v class name given s
   unfolding bind
   on_instance class h = call_on ∙ by there h ∙ ap (λ (o : Outcome Known). and_then o (λ known. call here known (v ∷ given))) (method_is ∙ ap by_kind h)
     where
@@ -97,7 +102,7 @@ module _ (here : Setting) (v : Value) (at : Ref) (name : Spelling) (given : List
       by (Some (Instance class fields)) h = refl
       by None h = cc
 
-  pub goes_instance : (class : ℕ) → kind_of there ≡ kind.Instance class → iterable_method here v name given s ≡ and_then (found_method here.program class name s) (generated_by here v given)
+  pub goes_instance : (class : ℕ) → kind_of there ≡ kind.Instance class → iterable_method here v name given s ≡ goes_over_on here v class name given s
   unfolding bind
   goes_instance class h = goes_on ∙ by there h ∙ ap (λ (o : Outcome Known). and_then o (generated_by here v given)) (method_is ∙ ap by_kind h)
     where
@@ -106,4 +111,20 @@ module _ (here : Setting) (v : Value) (at : Ref) (name : Spelling) (given : List
       by (Some (Instance class fields)) h = refl
       by None h = cc
 
-pub ruleset method_rules = (on_list, goes_list, on_instance, goes_instance)
+  pub on_nothing : kind_of there ≡ kind.Nothing → call_method here v name given s ≡ Stops (Faulted (record { kind = fault.Runtime; text = codes "wrong kind" })) s
+  unfolding bind stop
+  on_nothing h = call_on ∙ by there h ∙ ap (λ (o : Outcome Known). and_then o (λ known. call here known (v ∷ given))) (method_is ∙ ap by_kind h)
+    where
+      by : (o : Option Object) → kind_of o ≡ kind.Nothing → method_on here v at name given o s ≡ and_then (method_of here v name s) (λ known. call here known (v ∷ given))
+      by (Some (Listed items)) h = cc
+      by (Some (Instance class fields)) h = cc
+      by None h = refl
+
+  pub goes_nothing : kind_of there ≡ kind.Nothing → iterable_method here v name given s ≡ Stops (Faulted (record { kind = fault.Runtime; text = codes "wrong kind" })) s
+  unfolding bind stop
+  goes_nothing h = goes_on ∙ by there h ∙ ap (λ (o : Outcome Known). and_then (and_then o (λ known. call here known (v ∷ given))) (λ container. pure (Items container))) (method_is ∙ ap by_kind h)
+    where
+      by : (o : Option Object) → kind_of o ≡ kind.Nothing → iterable_on here v at name given o s ≡ and_then (and_then (method_of here v name s) (λ known. call here known (v ∷ given))) (λ container. pure (Items container))
+      by (Some (Listed items)) h = cc
+      by (Some (Instance class fields)) h = cc
+      by None h = refl

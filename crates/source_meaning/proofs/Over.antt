@@ -1,6 +1,7 @@
 -- Loops in place over a cursor, beside the loops of the definitions.
 use Rattle.std.proofs.Common.{◌≡◌, ◌≤◌, ◌<◌, ◌≤ℤ◌, ◌<ℤ◌, arith, ℕ, zero, suc, ◌+◌, ℤ, pos, negsuc, ◌+ℤ◌, Bool, true, false, if◌then◌else◌, List, Option, Some, None, refl, sym, ap, ◌∙◌}
-use Rattle.std.specs.Prelude.{nat_lt, int_lt}
+use Rattle.std.specs.Prelude.{nat_lt, int_lt, codes}
+use Rattle.codon_base.specs.declared.fault.FaultKind.TheVariants as kind
 use Rattle.std.proofs.lemmas.Int.{ints}
 use Rattle.std.proofs.lemmas.Bool.{ltb-false}
 use Rattle.std.proofs.lemmas.Bool.Decides.{nat_tests}
@@ -8,7 +9,7 @@ use Rattle.codon_base.specs.Compared.{int_equal}
 use Rattle.codon_base.specs.declared.value.Value.{Value, out-Value}
 use Rattle.codon_base.specs.declared.value.Value.TheVariants as value
 use Rattle.source_meaning.specs.State.{State, Stop, Flow, Next}
-use Rattle.source_meaning.specs.Outcome.{Outcome, Gives, Stops, Run, and_then, bind, pure, stop, by_fuel, tick, ◌>>=◌}
+use Rattle.source_meaning.specs.Outcome.{Outcome, Gives, Stops, Run, and_then, bind, pure, stop, fault, by_fuel, tick, ◌>>=◌}
 use Rattle.source_meaning.specs.Objects.{int_in, found_at}
 use Rattle.source_meaning.specs.Task.{Consumer, Setting}
 use Rattle.source_meaning.specs.Loops as loops
@@ -90,6 +91,12 @@ module _ (here : Setting) (turn : Value → Run Flow) (stop step : ℤ) where
 
 -- ---- ranges of int
 
+apart : (n : ℕ) → int_equal (pos (suc n)) (pos 0) ≡ false
+apart n = grind (arith, nat_tests)
+
+abbrev begins_if : Bool → ℤ → ℤ → ℤ → Run Cursor
+begins_if b at last step = if b then fault kind.Value (codes "range step is zero") else pure (cursor.Number at last step)
+
 not_less : (a b : ℤ) → b ≤ℤ a → int_lt a b ≡ false
 not_less a b h = grind (arith, ints)
 
@@ -132,11 +139,11 @@ module _ (here : Setting) (turn : Value → Run Flow) where
   is_turns (cursor.Number at stop (negsuc k)) s h =
       numbers_loop here turn stop (negsuc k) (λ z. z <ℤ pos 9223372036854775808) (λ z. ends_down k stop z h.2) (grows_down k) at s h.1 (is_in_range at h.0 h.1)
 
-  from_step : (at stop step : ℤ) (s : State) → numbers here at stop step turn s ≡ and_then (begun_by at stop step s) meant_from
+  from_step : (at last step : ℤ) (s : State) → numbers here at last step turn s ≡ and_then (begun_by at last step s) meant_from
   unfolding bind pure stop
-  from_step at stop (pos zero) s = refl
-  from_step at stop (pos (suc n)) s = refl
-  from_step at stop (negsuc n) s = refl
+  from_step at last (pos zero) s = refl
+  from_step at last (pos (suc n)) s = ap (λ (b : Bool). and_then (begins_if b at last (pos (suc n)) s) meant_from) (sym (apart n))
+  from_step at last (negsuc n) s = refl
 
 after_both : {A B C : Type 0} (o : Outcome A) (f : A → Run B) (g : B → Run C) (h : A → Run C) → ((a : A) (s : State) → h a s ≡ and_then (f a s) g) → and_then o h ≡ and_then (and_then o f) g
 after_both (Gives a s) f g h e = e a s

@@ -1,11 +1,17 @@
-#![tactic(auto, unfolding(crate::specs::Outcome::bind, crate::specs::Outcome::pure, crate::specs::Outcome::stop), using(crate::proofs::MethodCalls::method_rules))]
+#![tactic(auto, unfolding(crate::specs::Outcome::bind, crate::specs::Outcome::pure, crate::specs::Outcome::stop))]
 
-ghost use Rattle.std.specs.Prelude.{◌≡◌, []};
+ghost use Rattle.std.specs.Prelude.{◌≡◌, [], slice_get};
+ghost use Rattle.std.specs.Option.{option_copied};
 ghost use Rattle.source_meaning.specs.Calls as calls;
 ghost use Rattle.source_meaning.specs.Expressions as spec;
 ghost use Rattle.source_meaning.specs.Meaning.{turn_of};
 ghost use Rattle.codon_base.specs.Levels.{object_at};
-ghost use Rattle.source_meaning.specs.Kinds.{kind_of, found_method};
+ghost use Rattle.source_meaning.specs.Kinds.{kind_of, found_method, told, called_on, goes_over_on};
+ghost use Rattle.source_meaning.specs.Iterations.{in_place};
+ghost use Rattle.source_meaning.specs.Loops.{Numbers};
+ghost use Rattle.source_meaning.specs.Operations as operations;
+ghost use Rattle.source_meaning.specs.Callees.{functions_in};
+ghost use Rattle.source_meaning.specs.Program.{function_named};
 ghost use Rattle.source_meaning.specs.Seen.{seen, Tells, TellsBy, TellsAtBy, TellsFlow};
 ghost use Rattle.source_meaning.specs.Steps.{iterable_of, looped, turns_from};
 ghost use Rattle.source_meaning.specs.Task.{Gathered};
@@ -18,7 +24,7 @@ use crate::iterable::{Cursor, Iterable};
 use crate::loops::is_within;
 use crate::objects::{allocate, append, ref_in};
 use crate::operations::list_method;
-use crate::prepared::{Called, Prepared};
+use crate::prepared::{Called, KnownClass, Prepared};
 use crate::returns::with_first;
 use crate::runner::Runner;
 use crate::state::{State, Stop};
@@ -46,20 +52,42 @@ fn kind_at(state: &State, at: Ref) -> Kind
     }
 }
 
-impl<'m, F: Fn(Global, &Prepared<'_>, u64, u32, &mut State, &[Consumer<'_>], Task<'_>) -> Result<Flow, Stop>> Runner<'m, F> {
-    /// The method of an instance of that class.
-    fn method_in(&self, class: u32, name: &Spelling) -> Result<Called<'m>, Stop>
-        ensures { (s : _) → TellsAtBy known_of (found_method (program_of self.now.program.now) class name.now s) result s }
-    {
-        let Some(c) = self.program.classes.get(class as usize) else {
-            return Err(wrong(self.alloc));
-        };
-        match function_named(name, &c.methods) {
-            Some(known) => Ok(Called { known, in_prelude: false }),
-            None => Err(wrong(self.alloc)),
-        }
-    }
+/// The class of that number.
+fn class_at<'m>(program: &'m Prepared<'m>, class: u32) -> Option<&'m KnownClass<'m>>
+    ensures { option_copied result ≡ slice_get program.now.classes.items class }
+{
+    program.classes.get(class as usize)
+}
 
+/// The method of that name among those of a class.
+fn method_of<'m>(alloc: Global, class: &'m KnownClass<'m>, name: &Spelling) -> Result<Called<'m>, Stop>
+    ensures { (s : _) → TellsAtBy known_of (told (function_named name.now (functions_in class.now.methods.items)) s) result s }
+{
+    match function_named(name, &class.methods) {
+        Some(known) => Ok(Called { known, in_prelude: false }),
+        None => Err(wrong(alloc)),
+    }
+}
+
+/// The method of an instance of that class.
+fn method_in<'m>(alloc: Global, program: &'m Prepared<'m>, class: u32, name: &Spelling) -> Result<Called<'m>, Stop>
+    ensures { (s : _) → TellsAtBy known_of (found_method (program_of program.now) class name.now s) result s }
+{
+    match class_at(program, class) {
+        Some(c) => method_of(alloc, c, name),
+        None => Err(wrong(alloc)),
+    }
+}
+
+/// What a loop goes over that a method of a list gives.
+fn list_items<'m>(alloc: Global, state: &mut State, name: &Spelling, at: Ref, given: Values) -> Result<Iterable<'m>, Stop>
+    ensures { TellsBy iterable_of (spec.items_of (operations.list_method in_place name.now at given) (seen state.old)) result state.new }
+{
+    let items = list_method(alloc, state, name, at, given)?;
+    Ok(Iterable::Items(items))
+}
+
+impl<'m, F: Fn(Global, &Prepared<'_>, u64, u32, &mut State, &[Consumer<'_>], Task<'_>) -> Result<Flow, Stop>> Runner<'m, F> {
     /// `v.name(given)`.
     pub(crate) fn call_method(&self, state: &mut State, v: Value, name: &Spelling, given: Values) -> Result<Value, Stop>
         requires { Nests self.now.program.now self.now.limit self.now.depth (F.pre self.now.low) (F.post self.now.low) }
@@ -68,13 +96,20 @@ impl<'m, F: Fn(Global, &Prepared<'_>, u64, u32, &mut State, &[Consumer<'_>], Tas
         let at = ref_in(self.alloc, state, &v)?;
         match kind_at(state, at) {
             Kind::List => list_method(self.alloc, state, name, at, given),
-            Kind::Instance(class) => {
-                let called = self.method_in(class, name)?;
-                let given = with_first(self.alloc, v, given)?;
-                self.call(state, called, given)
-            }
+            Kind::Instance(class) => self.call_on(state, v, class, name, given),
             Kind::Nothing => Err(wrong(self.alloc)),
         }
+    }
+
+    /// `v.name(given)` of an instance of that class.
+    fn call_on(&self, state: &mut State, v: Value, class: u32, name: &Spelling, given: Values) -> Result<Value, Stop>
+        requires { Nests self.now.program.now self.now.limit self.now.depth (F.pre self.now.low) (F.post self.now.low) }
+        ensures { Tells (called_on (here self.now.program.now self.now.limit self.now.depth) v class name.now given (seen state.old)) result state.new }
+    {
+        let called = method_in(self.alloc, self.program, class, name)?;
+        let given = with_first(self.alloc, v, given)?;
+        let made = self.call(state, called, given)?;
+        Ok(made)
     }
 
     /// What a loop goes over that `v.name(given)` gives.
@@ -84,21 +119,24 @@ impl<'m, F: Fn(Global, &Prepared<'_>, u64, u32, &mut State, &[Consumer<'_>], Tas
     {
         let at = ref_in(self.alloc, state, &v)?;
         match kind_at(state, at) {
-            Kind::List => {
-                let items = list_method(self.alloc, state, name, at, given)?;
-                Ok(Iterable::Items(items))
-            }
-            Kind::Instance(class) => {
-                let called = self.method_in(class, name)?;
-                let given = with_first(self.alloc, v, given)?;
-                if called.known.yields {
-                    return Ok(Iterable::Generated(called, given));
-                }
-                let items = self.call(state, called, given)?;
-                Ok(Iterable::Items(items))
-            }
+            Kind::List => list_items(self.alloc, state, name, at, given),
+            Kind::Instance(class) => self.goes_over_on(state, v, class, name, given),
             Kind::Nothing => Err(wrong(self.alloc)),
         }
+    }
+
+    /// What a loop goes over that `v.name(given)` of an instance of that class gives.
+    fn goes_over_on(&self, state: &mut State, v: Value, class: u32, name: &Spelling, given: Values) -> Result<Iterable<'m>, Stop>
+        requires { Nests self.now.program.now self.now.limit self.now.depth (F.pre self.now.low) (F.post self.now.low) }
+        ensures { TellsBy iterable_of (goes_over_on (here self.now.program.now self.now.limit self.now.depth) v class name.now given (seen state.old)) result state.new }
+    {
+        let called = method_in(self.alloc, self.program, class, name)?;
+        let given = with_first(self.alloc, v, given)?;
+        if called.known.yields {
+            return Ok(Iterable::Generated(called, given));
+        }
+        let items = self.call(state, called, given)?;
+        Ok(Iterable::Items(items))
     }
 
     /// Puts an item at the end of a list that is gathered.
@@ -127,11 +165,19 @@ impl<'m, F: Fn(Global, &Prepared<'_>, u64, u32, &mut State, &[Consumer<'_>], Tas
         match goes_over {
             Iterable::Generated(called, given) => self.generate(state, &[], Consumer::Gathered(list), called, given),
             Iterable::Items(container) => self.append_turns(state, list, Cursor::Item(container, 0)),
-            Iterable::Numbers(start, stop, step) => {
-                let cursor = begun(self.alloc, state, &start, &stop, &step)?;
+            Iterable::Numbers(start, stop, step) => self.append_numbers(state, list, &start, &stop, &step),
+        }
+    }
+
+    fn append_numbers(&self, state: &mut State, list: &Value, start: &Value, stop: &Value, step: &Value) -> Result<Flow, Stop>
+        ensures { TellsFlow (looped (here self.now.program.now self.now.limit self.now.depth) [] (Numbers start.now stop.now step.now) (Gathered list.now) (seen state.old)) result state.new }
+    {
+        match begun(self.alloc, state, start, stop, step) {
+            Ok(cursor) => {
                 is_within(&cursor);
                 self.append_turns(state, list, cursor)
             }
+            Err(e) => Err(e),
         }
     }
 

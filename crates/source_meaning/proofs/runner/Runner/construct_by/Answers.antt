@@ -1,6 +1,7 @@
-use Rattle.std.proofs.Common.{◌≡◌, sym, ap, ◌∙◌, subst}
+use Rattle.std.proofs.Common.{◌≡◌, sym, subst}
 use Rattle.codon_base.specs.declared.value.Value.{Value}
 use Rattle.source_meaning.specs.Outcome.{Outcome}
+use Rattle.source_meaning.specs.Program.{fields_of}
 use Rattle.source_meaning.specs.Seen.{seen, Tells}
 use Rattle.source_meaning.specs.Tasks.{here}
 use Rattle.source_meaning.proofs.Constructed.{constructed}
@@ -8,6 +9,7 @@ use Rattle.source_meaning.proofs.runner.Runner.construct_by.Goals as goal
 
 pub returns : goal.returns
 returns g c =
+    let named : c.as_slice.result.now ≡ fields_of c.args.c.class.now.class.now = cc (c.as_slice.ensures, c.args.c.class.now.has_fields) in
     subst (λ (o : Outcome Value). Tells o c.initialize.result c.initialize.new.state)
-    (sym (constructed (here c.args.self.now.program.now c.args.self.now.limit c.args.self.now.depth) c.args.c.number c.args.c.class.now.class.now c.args.known.now.function.now c.args.given c.in_ok-fields.fields c.args.c.class.now.fields (seen c.args.state.now) (seen c.allocate.new.state) c.in_ok-new.new c.args.c.class.now.has_fields (c.in_ok-fields.ensures) c.in_ok-new.ensures))
+    (sym (constructed (here c.args.self.now.program.now c.args.self.now.limit c.args.self.now.depth) c.args.c.number c.args.c.class.now.class.now c.args.known.now.function.now c.args.given c.in_ok-fields.fields c.as_slice.result.now (seen c.args.state.now) (seen c.allocate.new.state) c.in_ok-new.new named c.in_ok-fields.ensures c.in_ok-new.ensures))
     c.initialize.ensures
