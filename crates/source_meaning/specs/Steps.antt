@@ -49,6 +49,10 @@ module _ (here : Setting) where
     abbrev pub while_of : Scope → Expr → List Stmt → Run Flow
     while_of scope e body = loop here.limit (while_next here.limit (condition here scope e)) (λ _. statements here consumers scope body) tt
 
+    -- a loop in turn, as it is left
+    abbrev pub begun_for : Scope → For → Run Flow
+    begun_for scope l = iterable here scope l.iterable >>= λ goes_over. looped goes_over (Body scope l.names l.body)
+
     abbrev pub for_of : Scope → For → Run Flow
     for_of scope l = iterable here scope l.iterable >>= λ goes_over. looped goes_over (Body scope l.names l.body) >>= λ flow. pure (after_loop flow)
 

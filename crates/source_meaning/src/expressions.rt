@@ -16,18 +16,17 @@ ghost use Rattle.source_meaning.specs.Task.{Comprehension};
 ghost use Rattle.source_meaning.specs.Tasks.{Nests, here};
 
 use crate::callee::{Builtin, Callee, resolve};
-use crate::cursor::{begun, next};
+use crate::entering::step;
 use crate::flow::{End, Flow, ended, goes_on};
 use crate::frames::swap_names;
 use crate::iterable::{Cursor, Iterable};
-use crate::loops::is_within;
 use crate::objects::{allocate, field, item_at, slice};
 use crate::operations::{binary, builtin, compared, truth, unary};
 use crate::prepared::Prepared;
 use crate::ranges::range_of;
 use crate::runner::Runner;
 use crate::scope::{Inner, Scope, within};
-use crate::state::{State, Stop};
+use crate::state::{Names, State, Stop};
 use crate::task::{Consumer, Task};
 use crate::variables::{fault, left, read_name, set_loop_names, wrong};
 use codon_base::{FaultKind, Object, Spelling, Text, Value, Values};
@@ -40,6 +39,14 @@ fn text_value(alloc: Global, text: &Text) -> Result<Value, Stop>
 {
     let text = text.try_clone(alloc)?;
     Ok(Value::Text(text))
+}
+
+/// A comprehension that has begun: its list, the names before it, and whether a generator has made all its items.
+#[derive(Drop)]
+struct Gathering {
+    list: Value,
+    own: Names,
+    is_whole: bool,
 }
 
 impl<'m, F: Fn(Global, &Prepared<'_>, u64, u32, &mut State, &[Consumer<'_>], Task<'_>) -> Result<Flow, Stop>> Runner<'m, F> {
@@ -166,8 +173,38 @@ impl<'m, F: Fn(Global, &Prepared<'_>, u64, u32, &mut State, &[Consumer<'_>], Tas
         requires { Nests self.now.program.now self.now.limit self.now.depth (F.pre self.now.low) (F.post self.now.low) }
         ensures { Tells (lists.comprehension (here self.now.program.now self.now.limit self.now.depth) (scope_of scope.now) names.now iterable.now condition.now item.now (seen state.old)) result state.new }
     {
+        let all = within(self.alloc, Inner { names }, scope.inner)?;
+        let inner = Scope { inner: &all, locals: scope.locals, fixed: scope.fixed, in_prelude: scope.in_prelude };
+        let mut cursor = Cursor::Ended;
+        let begun = self.begin_gathering(state, scope, &inner, iterable, names, item, condition, &mut cursor)?;
+        let mut left = left(state, self.limit);
+        'turns: while !begun.is_whole {
+            if !step(self.alloc, state, self.limit, &inner, names, &mut cursor)? {
+                break 'turns;
+            }
+            if self.kept(state, &inner, condition)? {
+                let v = self.expr(state, &inner, item.get())?;
+                let _ = self.append_to(state, &begun.list, v)?;
+            }
+            if left == 0 {
+                return Err(Stop::OutOfFuel);
+            }
+            left -= 1;
+        }
+        let _ = swap_names(state, begun.own);
+        Ok(begun.list)
+    }
+
+    /// The beginning of a comprehension: what it goes over, its list, and the names before it.
+    #[cycle(expression)]
+    fn begin_gathering(&self, state: &mut State, scope: &Scope<'_>, inner: &Scope<'_>, iterable: &Expr, names: &LoopNames, item: &Boxed<Expr>, condition: &Option<Boxed<Expr>>, cursor: &mut Cursor) -> Result<Gathering, Stop>
+        requires { Nests self.now.program.now self.now.limit self.now.depth (F.pre self.now.low) (F.post self.now.low) }
+    {
         let goes_over = self.iterable(state, scope, iterable)?;
-        self.comprehension(state, scope, goes_over, names, item, condition)
+        let list = allocate(state, Object::List(Items::new(self.alloc)))?;
+        let own = state.names.try_clone(self.alloc)?;
+        let flow = self.enter_loop(state, &[], Consumer::Comprehension(*inner, names, condition, item, &list), goes_over, cursor)?;
+        Ok(Gathering { list, own, is_whole: flow.is_some() })
     }
 
     /// A chain of comparisons.
@@ -420,61 +457,6 @@ impl<'m, F: Fn(Global, &Prepared<'_>, u64, u32, &mut State, &[Consumer<'_>], Tas
                 let v = self.standard(state, scope, other, parts)?;
                 Ok(Iterable::Items(v))
             }
-        }
-    }
-
-    /// The list of a comprehension.
-    #[cycle(expression)]
-    fn comprehension(&self, state: &mut State, scope: &Scope<'_>, goes_over: Iterable<'m>, names: &LoopNames, item: &Boxed<Expr>, condition: &Option<Boxed<Expr>>) -> Result<Value, Stop>
-        requires { Nests self.now.program.now self.now.limit self.now.depth (F.pre self.now.low) (F.post self.now.low) }
-        ensures { Tells (comprehended_of (here self.now.program.now self.now.limit self.now.depth) (scope_of scope.now) names.now (iterable_of goes_over.entry) condition.now item.now (seen state.old)) result state.new }
-    {
-        let all = within(self.alloc, Inner { names }, scope.inner)?;
-        let inner = Scope { inner: &all, locals: scope.locals, fixed: scope.fixed, in_prelude: scope.in_prelude };
-        let list = allocate(state, Object::List(Items::new(self.alloc)))?;
-        let own = state.names.try_clone(self.alloc)?;
-        let _ = self.gather(state, &inner, goes_over, names, item, condition, &list)?;
-        let _ = swap_names(state, own);
-        Ok(list)
-    }
-
-    /// The loop of a comprehension.
-    #[cycle(expression)]
-    fn gather(&self, state: &mut State, inner: &Scope<'_>, goes_over: Iterable<'m>, names: &LoopNames, item: &Boxed<Expr>, condition: &Option<Boxed<Expr>>, list: &Value) -> Result<Flow, Stop>
-        requires { Nests self.now.program.now self.now.limit self.now.depth (F.pre self.now.low) (F.post self.now.low) }
-        ensures { TellsFlow (looped (here self.now.program.now self.now.limit self.now.depth) [] (iterable_of goes_over.entry) (Comprehension (scope_of inner.now) names.now condition.now item.now list.now) (seen state.old)) result state.new }
-    {
-        match goes_over {
-            Iterable::Generated(called, given) => self.generate(state, &[], Consumer::Comprehension(*inner, names, condition, item, list), called, given),
-            Iterable::Items(container) => self.gather_turns(state, inner, Cursor::Item(container, 0), names, item, condition, list),
-            Iterable::Numbers(start, stop, step) => {
-                let cursor = begun(self.alloc, state, &start, &stop, &step)?;
-                is_within(&cursor);
-                self.gather_turns(state, inner, cursor, names, item, condition, list)
-            }
-        }
-    }
-
-    #[cycle(expression)]
-    fn gather_turns(&self, state: &mut State, inner: &Scope<'_>, from: Cursor, names: &LoopNames, gathered: &Boxed<Expr>, condition: &Option<Boxed<Expr>>, list: &Value) -> Result<Flow, Stop>
-        requires { Nests self.now.program.now self.now.limit self.now.depth (F.pre self.now.low) (F.post self.now.low) }
-        ensures { TellsFlow (turns_from (here self.now.program.now self.now.limit self.now.depth) (turn_of (here self.now.program.now self.now.limit self.now.depth) [] (Comprehension (scope_of inner.now) names.now condition.now gathered.now list.now)) from (seen state.old)) result state.new }
-    {
-        let mut left = left(state, self.limit);
-        let mut cursor = from;
-        'turns: loop {
-            let Some(item) = next(self.alloc, state, self.limit, cursor)? else {
-                return Ok(ended(End::Next));
-            };
-            let flow = self.gather_one(state, inner, names, gathered, condition, list, item.0)?;
-            if !goes_on(&flow) {
-                return Ok(flow);
-            }
-            if left == 0 {
-                return Err(Stop::OutOfFuel);
-            }
-            left -= 1;
-            cursor = item.1;
         }
     }
 

@@ -2,17 +2,19 @@
 
 ghost use Rattle.std.specs.Prelude.{◌≡◌};
 ghost use Rattle.source_meaning.specs.Loops as spec;
+ghost use Rattle.source_meaning.specs.Entered.{TellsEntered};
 ghost use Rattle.source_meaning.specs.Meaning.{turn_of};
 ghost use Rattle.source_meaning.specs.Outcome.{bind, pure};
 ghost use Rattle.source_meaning.specs.Regions.{consumer_in};
 ghost use Rattle.source_meaning.specs.Scopes.{scope_of};
 ghost use Rattle.source_meaning.specs.Seen.{seen, TellsFlow};
 ghost use Rattle.source_meaning.specs.Statements.{stmt, statements};
-ghost use Rattle.source_meaning.specs.Steps.{iterable_of, looped, turns_from, chosen, while_of, for_of};
+ghost use Rattle.source_meaning.specs.Steps.{iterable_of, looped, turns_from, chosen, while_of, for_of, begun_for};
 ghost use Rattle.source_meaning.specs.Task.{Body};
 ghost use Rattle.source_meaning.specs.Tasks.{Nests, here, consumer_of, consumers_of, region_at};
 
 use crate::cursor::{begun, next};
+use crate::entering::step;
 use crate::flow::{End, Flow, after_loop, ended, goes_on, is_next};
 use crate::iterable::{Cursor, Iterable};
 use crate::prepared::Prepared;
@@ -117,9 +119,34 @@ impl<'m, F: Fn(Global, &Prepared<'_>, u64, u32, &mut State, &[Consumer<'_>], Tas
         requires { Nests self.now.program.now self.now.limit self.now.depth (F.pre self.now.low) (F.post self.now.low) }
         ensures { TellsFlow (for_of (here self.now.program.now self.now.limit self.now.depth) (consumers_of consumers.now) (scope_of scope.now) l.now (seen state.old)) result state.new }
     {
+        let mut cursor = Cursor::Ended;
+        if let Some(flow) = self.enter_for(state, consumers, scope, l, &mut cursor)? {
+            return Ok(after_loop(flow));
+        }
+        let mut left = left(state, self.limit);
+        'turns: loop {
+            if !step(self.alloc, state, self.limit, scope, &l.names, &mut cursor)? {
+                return Ok(ended(End::Next));
+            }
+            let flow = self.block(state, consumers, scope, &l.body)?;
+            if !goes_on(&flow) {
+                return Ok(after_loop(flow));
+            }
+            if left == 0 {
+                return Err(Stop::OutOfFuel);
+            }
+            left -= 1;
+        }
+    }
+
+    /// The beginning of a loop in turn.
+    fn enter_for(&self, state: &mut State, consumers: &[Consumer<'_>], scope: &Scope<'_>, l: &For, cursor: &mut Cursor) -> Result<Option<Flow>, Stop>
+        requires { Nests self.now.program.now self.now.limit self.now.depth (F.pre self.now.low) (F.post self.now.low) }
+        ensures { TellsEntered (begun_for (here self.now.program.now self.now.limit self.now.depth) (consumers_of consumers.now) (scope_of scope.now) l.now (seen state.old)) (turns_from (here self.now.program.now self.now.limit self.now.depth) (turn_of (here self.now.program.now self.now.limit self.now.depth) (consumers_of consumers.now) (Body (scope_of scope.now) l.now.names l.now.body))) result cursor.new state.new }
+    {
         let goes_over = self.iterable(state, scope, &l.iterable)?;
-        let flow = self.loop_body(state, consumers, scope, None, l, goes_over)?;
-        Ok(after_loop(flow))
+        let flow = self.enter_loop(state, consumers, Consumer::Body(*scope, &l.names, &l.body), goes_over, cursor)?;
+        Ok(flow)
     }
 
     /// A loop in turn, or in a region that runs.
