@@ -15,14 +15,14 @@ ghost use Rattle.source_meaning.specs.Steps.{iterable_of, looped, turns_from};
 ghost use Rattle.source_meaning.specs.Task.{Comprehension};
 ghost use Rattle.source_meaning.specs.Tasks.{Nests, here};
 
-use crate::callee::{Builtin, Callee, resolve};
+use crate::callee::{Builtin, Callee, Numbered, resolve};
 use crate::entering::step;
 use crate::flow::{End, Flow, ended, goes_on};
 use crate::frames::swap_names;
 use crate::iterable::{Cursor, Iterable};
 use crate::objects::{allocate, field, item_at, slice};
 use crate::operations::{binary, builtin, compared, truth, unary};
-use crate::prepared::Prepared;
+use crate::prepared::{Called, Prepared};
 use crate::ranges::range_of;
 use crate::runner::Runner;
 use crate::scope::{Inner, Scope, within};
@@ -347,21 +347,40 @@ impl<'m, F: Fn(Global, &Prepared<'_>, u64, u32, &mut State, &[Consumer<'_>], Tas
         ensures { Tells (called (here self.now.program.now self.now.limit self.now.depth) (scope_of scope.now) name.now parts.now (seen state.old)) result state.new }
     {
         match resolve(self.program, scope, name) {
-            Callee::Variable => {
-                let _ = read_name(self.alloc, state, scope, name)?;
-                Err(wrong(self.alloc))
-            }
+            Callee::Variable => self.called_variable(state, scope, name),
             Callee::Unknown => Err(fault(self.alloc, FaultKind::Runtime, b"name is not set")),
-            Callee::Defined(called) => {
-                let given = self.exprs(state, scope, parts.as_slice())?;
-                self.call(state, called, given)
-            }
-            Callee::Constructor(c) => {
-                let given = self.exprs(state, scope, parts.as_slice())?;
-                self.construct(state, c, given)
-            }
+            Callee::Defined(called) => self.called_function(state, scope, called, parts.as_slice()),
+            Callee::Constructor(c) => self.called_class(state, scope, c, parts.as_slice()),
             Callee::Standard(which) => self.standard(state, scope, which, parts.as_slice()),
         }
+    }
+
+    /// A variable that is called.
+    fn called_variable<T>(&self, state: &mut State, scope: &Scope<'_>, name: &Spelling) -> Result<T, Stop>
+        ensures { Tells (bind (read_name (program_of self.now.program.now) (scope_of scope.now) name.now) (λ _. wrong) (seen state.old)) result state.new }
+    {
+        let _ = read_name(self.alloc, state, scope, name)?;
+        Err(wrong(self.alloc))
+    }
+
+    /// A function that is no generator, on what is written there.
+    #[cycle(expression)]
+    fn called_function(&self, state: &mut State, scope: &Scope<'_>, called: Called<'_>, parts: &[Expr]) -> Result<Value, Stop>
+        requires { Nests self.now.program.now self.now.limit self.now.depth (F.pre self.now.low) (F.post self.now.low) }
+        ensures { Tells (bind (spec.exprs (here self.now.program.now self.now.limit self.now.depth) (scope_of scope.now) parts.now) (calls.call (here self.now.program.now self.now.limit self.now.depth) (known_of called.entry)) (seen state.old)) result state.new }
+    {
+        let given = self.exprs(state, scope, parts)?;
+        self.call(state, called, given)
+    }
+
+    /// A class, on what is written there.
+    #[cycle(expression)]
+    fn called_class(&self, state: &mut State, scope: &Scope<'_>, c: Numbered<'_>, parts: &[Expr]) -> Result<Value, Stop>
+        requires { Nests self.now.program.now self.now.limit self.now.depth (F.pre self.now.low) (F.post self.now.low) }
+        ensures { Tells (bind (spec.exprs (here self.now.program.now self.now.limit self.now.depth) (scope_of scope.now) parts.now) (calls.construct (here self.now.program.now self.now.limit self.now.depth) c.entry.number c.entry.class.now.class.now) (seen state.old)) result state.new }
+    {
+        let given = self.exprs(state, scope, parts)?;
+        self.construct(state, c, given)
     }
 
     /// A builtin on what is written there.
@@ -370,25 +389,19 @@ impl<'m, F: Fn(Global, &Prepared<'_>, u64, u32, &mut State, &[Consumer<'_>], Tas
         requires { Nests self.now.program.now self.now.limit self.now.depth (F.pre self.now.low) (F.post self.now.low) }
         ensures { Tells (standard (here self.now.program.now self.now.limit self.now.depth) (scope_of scope.now) (builtin_of which) parts.now (seen state.old)) result state.new }
     {
-        match which {
-            Builtin::ToList => self.listed(state, scope, parts),
-            other => {
-                let given = self.exprs(state, scope, parts)?;
-                builtin(self.alloc, state, other, given.as_slice())
-            }
+        if let (Builtin::ToList, [part]) = (which, parts) {
+            return self.listed(state, scope, part);
         }
+        let given = self.exprs(state, scope, parts)?;
+        builtin(self.alloc, state, which, given.as_slice())
     }
 
-    /// `list(..)` of what is written there.
+    /// `list(part)`.
     #[cycle(expression)]
-    fn listed(&self, state: &mut State, scope: &Scope<'_>, parts: &[Expr]) -> Result<Value, Stop>
+    fn listed(&self, state: &mut State, scope: &Scope<'_>, part: &Expr) -> Result<Value, Stop>
         requires { Nests self.now.program.now self.now.limit self.now.depth (F.pre self.now.low) (F.post self.now.low) }
-        ensures { Tells (standard (here self.now.program.now self.now.limit self.now.depth) (scope_of scope.now) ToList parts.now (seen state.old)) result state.new }
+        ensures { Tells (bind (spec.iterable (here self.now.program.now self.now.limit self.now.depth) (scope_of scope.now) part.now) (spec.gathered (here self.now.program.now self.now.limit self.now.depth)) (seen state.old)) result state.new }
     {
-        let [part] = parts else {
-            let given = self.exprs(state, scope, parts)?;
-            return builtin(self.alloc, state, Builtin::ToList, given.as_slice());
-        };
         let goes_over = self.iterable(state, scope, part)?;
         self.gathered(state, goes_over)
     }
@@ -401,16 +414,28 @@ impl<'m, F: Fn(Global, &Prepared<'_>, u64, u32, &mut State, &[Consumer<'_>], Tas
     {
         match e {
             Expr::Call(_, name, parts) => self.called_iterable(state, scope, &name.spelling, parts),
-            Expr::MethodCall(_, _, object, name, parts) => {
-                let v = self.expr(state, scope, object.get())?;
-                let given = self.exprs(state, scope, parts.as_slice())?;
-                self.iterable_method(state, v, name, given)
-            }
-            _ => {
-                let v = self.expr(state, scope, e)?;
-                Ok(Iterable::Items(v))
-            }
+            Expr::MethodCall(_, _, object, name, parts) => self.method_iterable(state, scope, object.get(), name, parts.as_slice()),
+            _ => self.items_of(state, scope, e),
         }
+    }
+
+    /// What a loop goes over that a method gives.
+    #[cycle(expression)]
+    fn method_iterable(&self, state: &mut State, scope: &Scope<'_>, object: &Expr, name: &Spelling, parts: &[Expr]) -> Result<Iterable<'m>, Stop>
+        requires { Nests self.now.program.now self.now.limit self.now.depth (F.pre self.now.low) (F.post self.now.low) }
+    {
+        let v = self.expr(state, scope, object)?;
+        let given = self.exprs(state, scope, parts)?;
+        self.iterable_method(state, v, name, given)
+    }
+
+    /// The items of a value.
+    #[cycle(expression)]
+    fn items_of(&self, state: &mut State, scope: &Scope<'_>, e: &Expr) -> Result<Iterable<'m>, Stop>
+        requires { Nests self.now.program.now self.now.limit self.now.depth (F.pre self.now.low) (F.post self.now.low) }
+    {
+        let v = self.expr(state, scope, e)?;
+        Ok(Iterable::Items(v))
     }
 
     /// What a loop goes over that a call by name gives.
@@ -420,26 +445,34 @@ impl<'m, F: Fn(Global, &Prepared<'_>, u64, u32, &mut State, &[Consumer<'_>], Tas
         ensures { TellsBy iterable_of (called_iterable (here self.now.program.now self.now.limit self.now.depth) (scope_of scope.now) name.now parts.now (seen state.old)) result state.new }
     {
         match resolve(self.program, scope, name) {
-            Callee::Defined(known) => {
-                let given = self.exprs(state, scope, parts.as_slice())?;
-                if known.known.yields {
-                    return Ok(Iterable::Generated(known, given));
-                }
-                let v = self.call(state, known, given)?;
-                Ok(Iterable::Items(v))
-            }
+            Callee::Defined(called) => self.function_iterable(state, scope, called, parts.as_slice()),
             Callee::Standard(which) => self.standard_iterable(state, scope, which, parts.as_slice()),
-            Callee::Constructor(c) => {
-                let given = self.exprs(state, scope, parts.as_slice())?;
-                let v = self.construct(state, c, given)?;
-                Ok(Iterable::Items(v))
-            }
-            Callee::Variable => {
-                let _ = read_name(self.alloc, state, scope, name)?;
-                Err(wrong(self.alloc))
-            }
+            Callee::Constructor(c) => self.class_iterable(state, scope, c, parts.as_slice()),
+            Callee::Variable => self.called_variable(state, scope, name),
             Callee::Unknown => Err(fault(self.alloc, FaultKind::Runtime, b"name is not set")),
         }
+    }
+
+    /// What a loop goes over that a function gives: its items, where it is a generator.
+    #[cycle(expression)]
+    fn function_iterable(&self, state: &mut State, scope: &Scope<'_>, called: Called<'m>, parts: &[Expr]) -> Result<Iterable<'m>, Stop>
+        requires { Nests self.now.program.now self.now.limit self.now.depth (F.pre self.now.low) (F.post self.now.low) }
+    {
+        if called.known.yields {
+            let given = self.exprs(state, scope, parts)?;
+            return Ok(Iterable::Generated(called, given));
+        }
+        let v = self.called_function(state, scope, called, parts)?;
+        Ok(Iterable::Items(v))
+    }
+
+    /// What a loop goes over that a class gives.
+    #[cycle(expression)]
+    fn class_iterable(&self, state: &mut State, scope: &Scope<'_>, c: Numbered<'_>, parts: &[Expr]) -> Result<Iterable<'m>, Stop>
+        requires { Nests self.now.program.now self.now.limit self.now.depth (F.pre self.now.low) (F.post self.now.low) }
+    {
+        let v = self.called_class(state, scope, c, parts)?;
+        Ok(Iterable::Items(v))
     }
 
     /// What a loop goes over that a builtin gives.
@@ -453,11 +486,16 @@ impl<'m, F: Fn(Global, &Prepared<'_>, u64, u32, &mut State, &[Consumer<'_>], Tas
                 let given = self.exprs(state, scope, parts)?;
                 range_of(self.alloc, given)
             }
-            other => {
-                let v = self.standard(state, scope, other, parts)?;
-                Ok(Iterable::Items(v))
-            }
+            other => self.standard_items(state, scope, other, parts),
         }
+    }
+
+    #[cycle(expression)]
+    fn standard_items(&self, state: &mut State, scope: &Scope<'_>, which: Builtin, parts: &[Expr]) -> Result<Iterable<'m>, Stop>
+        requires { Nests self.now.program.now self.now.limit self.now.depth (F.pre self.now.low) (F.post self.now.low) }
+    {
+        let v = self.standard(state, scope, which, parts)?;
+        Ok(Iterable::Items(v))
     }
 
     /// A turn of a comprehension.

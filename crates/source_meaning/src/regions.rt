@@ -13,18 +13,21 @@ ghost use Rattle.source_meaning.specs.Tasks.{Nests, here, consumers_of, program_
 
 use crate::callee::{Builtin, Callee, resolve};
 use crate::captures::{begin_loop, fixed_of};
-use crate::flow::{Flow, after_loop};
-use crate::iterable::Iterable;
-use crate::iterations::{enter_iteration, finish_region, leave_iteration, start_region};
+use crate::cursor::next;
+use crate::flow::{End, Flow, after_loop, ended, goes_on};
+use crate::iterable::Cursor;
+use crate::iterations::{Begun, enter_iteration, finish_region, leave_iteration, start_region};
 use crate::prepared::Prepared;
 use crate::runner::Runner;
 use crate::scope::Scope;
 use crate::state::{State, Stop};
 use crate::task::{Consumer, Region, Task};
-use codon_base::Value;
+use crate::variables::{left, set_loop_names};
+use codon_base::{Spelling, Value};
 use source_trees::{Expr, For, LoopNames, Stmt};
 use sqlite_items::Items;
 use std::alloc::Global;
+use std::mem;
 
 /// Whether a loop goes over a call of `range`.
 fn goes_over_range(program: &Prepared<'_>, scope: &Scope<'_>, e: &Expr) -> bool
@@ -45,6 +48,16 @@ fn is_range(callee: Callee<'_>) -> bool
     }
 }
 
+/// A region whose loop has begun: how it began, and where its body stands. Where it is not made in place, a generator has made all turns, and it was left so.
+#[derive(Drop)]
+struct Opened {
+    region: Region,
+    fixed: Items<Spelling>,
+    begun: Begun,
+    flow: Flow,
+    in_place: bool,
+}
+
 impl<'m, F: Fn(Global, &Prepared<'_>, u64, u32, &mut State, &[Consumer<'_>], Task<'_>) -> Result<Flow, Stop>> Runner<'m, F> {
     /// A `@par` loop.
     #[cycle(statement)]
@@ -52,25 +65,45 @@ impl<'m, F: Fn(Global, &Prepared<'_>, u64, u32, &mut State, &[Consumer<'_>], Tas
         requires { Nests self.now.program.now self.now.limit self.now.depth (F.pre self.now.low) (F.post self.now.low) }
         ensures { TellsFlow (parallel_of (here self.now.program.now self.now.limit self.now.depth) (consumers_of consumers.now) (scope_of scope.now) l.now (seen state.old)) result state.new }
     {
-        let goes_over = self.iterable(state, scope, &l.iterable)?;
-        let over_range = goes_over_range(self.program, scope, &l.iterable);
-        let region = begin_loop(self.alloc, state, self.program, scope, &l.names, over_range, &l.body)?;
-        let flow = self.region_of_loop(state, consumers, scope, &region, l, goes_over)?;
+        let mut cursor = Cursor::Ended;
+        let opened = self.open_region(state, consumers, scope, l, &mut cursor)?;
+        let inner = Scope { inner: scope.inner, locals: scope.locals, fixed: opened.fixed.as_slice(), in_prelude: scope.in_prelude };
+        let mut flow = opened.flow;
+        let mut left = left(state, self.limit);
+        'turns: while opened.in_place {
+            let Some(item) = next(self.alloc, state, self.limit, mem::replace(&mut cursor, Cursor::Ended))? else {
+                break 'turns;
+            };
+            flow = self.parallel_turn(state, consumers, &opened.region, &inner, &l.names, &l.body, item.0)?;
+            if !goes_on(&flow) {
+                break 'turns;
+            }
+            flow = ended(End::Next);
+            if left == 0 {
+                return Err(Stop::OutOfFuel);
+            }
+            left -= 1;
+            cursor = item.1;
+        }
+        finish_region(state, opened.begun, &flow)?;
         Ok(after_loop(flow))
     }
 
-    /// The region of a `@par` loop that has begun.
-    #[cycle(statement)]
-    fn region_of_loop(&self, state: &mut State, consumers: &[Consumer<'_>], scope: &Scope<'_>, region: &Region, l: &For, goes_over: Iterable<'m>) -> Result<Flow, Stop>
+    /// The beginning of a `@par` loop with its region. Where a generator gives the items, all turns are made.
+    fn open_region(&self, state: &mut State, consumers: &[Consumer<'_>], scope: &Scope<'_>, l: &For, cursor: &mut Cursor) -> Result<Opened, Stop>
         requires { Nests self.now.program.now self.now.limit self.now.depth (F.pre self.now.low) (F.post self.now.low) }
-        ensures { TellsFlow (parallel_by (here self.now.program.now self.now.limit self.now.depth) (consumers_of consumers.now) (scope_of scope.now) l.now.names l.now.body (iterable_of goes_over.entry) (region_of region.now) (seen state.old)) result state.new }
     {
+        let goes_over = self.iterable(state, scope, &l.iterable)?;
+        let over_range = goes_over_range(self.program, scope, &l.iterable);
+        let region = begin_loop(self.alloc, state, self.program, scope, &l.names, over_range, &l.body)?;
         let fixed = fixed_of(self.alloc, scope, &l.names, l.body.as_slice())?;
         let inner = Scope { inner: scope.inner, locals: scope.locals, fixed: fixed.as_slice(), in_prelude: scope.in_prelude };
         let begun = start_region(state);
-        let flow = self.loop_body(state, consumers, &inner, Some(region), l, goes_over)?;
-        finish_region(state, begun, &flow)?;
-        Ok(flow)
+        let flow = self.enter_loop(state, consumers, Consumer::Parallel(&region, inner, &l.names, &l.body), goes_over, cursor)?;
+        match flow {
+            Some(flow) => Ok(Opened { region, fixed, begun, flow, in_place: false }),
+            None => Ok(Opened { region, fixed, begun, flow: ended(End::Next), in_place: true }),
+        }
     }
 
     /// A turn of a parallel loop.
@@ -81,7 +114,8 @@ impl<'m, F: Fn(Global, &Prepared<'_>, u64, u32, &mut State, &[Consumer<'_>], Tas
     {
         let item = v.try_clone(self.alloc)?;
         let saved = enter_iteration(self.alloc, state, region, item)?;
-        let flow = self.body_turn(state, consumers, scope, names, body, v)?;
+        set_loop_names(self.alloc, state, scope, names, v)?;
+        let flow = self.block(state, consumers, scope, body)?;
         leave_iteration(self.alloc, state, region, saved)?;
         Ok(flow)
     }

@@ -29,16 +29,6 @@ use source_trees::{Arm, Expr, For, LoopNames, Stmt};
 use sqlite_items::Items;
 use std::alloc::Global;
 
-/// What takes the items of a loop in turn, or of one in a region.
-fn consumer_in<'a>(scope: &Scope<'a>, region: Option<&'a Region>, l: &'a For) -> Consumer<'a>
-    ensures { consumer_of result ≡ consumer_in (region_at region.entry) (scope_of scope.now) l.now }
-{
-    match region {
-        Some(region) => Consumer::Parallel(region, *scope, &l.names, &l.body),
-        None => Consumer::Body(*scope, &l.names, &l.body),
-    }
-}
-
 impl<'m, F: Fn(Global, &Prepared<'_>, u64, u32, &mut State, &[Consumer<'_>], Task<'_>) -> Result<Flow, Stop>> Runner<'m, F> {
     #[cycle(statement)]
     pub(crate) fn block(&self, state: &mut State, consumers: &[Consumer<'_>], scope: &Scope<'_>, body: &Items<Stmt>) -> Result<Flow, Stop>
@@ -147,57 +137,6 @@ impl<'m, F: Fn(Global, &Prepared<'_>, u64, u32, &mut State, &[Consumer<'_>], Tas
         let goes_over = self.iterable(state, scope, &l.iterable)?;
         let flow = self.enter_loop(state, consumers, Consumer::Body(*scope, &l.names, &l.body), goes_over, cursor)?;
         Ok(flow)
-    }
-
-    /// A loop in turn, or in a region that runs.
-    #[cycle(statement)]
-    pub(crate) fn loop_body(&self, state: &mut State, consumers: &[Consumer<'_>], scope: &Scope<'_>, region: Option<&Region>, l: &For, goes_over: Iterable<'m>) -> Result<Flow, Stop>
-        requires { Nests self.now.program.now self.now.limit self.now.depth (F.pre self.now.low) (F.post self.now.low) }
-        ensures { TellsFlow (looped (here self.now.program.now self.now.limit self.now.depth) (consumers_of consumers.now) (iterable_of goes_over.entry) (consumer_in (region_at region.entry) (scope_of scope.now) l.now) (seen state.old)) result state.new }
-    {
-        match goes_over {
-            Iterable::Generated(called, given) => self.generate(state, consumers, consumer_in(scope, region, l), called, given),
-            Iterable::Items(container) => self.turns(state, consumers, scope, region, l, Cursor::Item(container, 0)),
-            Iterable::Numbers(start, stop, step) => {
-                let cursor = begun(self.alloc, state, &start, &stop, &step)?;
-                self.turns(state, consumers, scope, region, l, cursor)
-            }
-        }
-    }
-
-    /// The turns of a loop in place.
-    #[cycle(statement)]
-    fn turns(&self, state: &mut State, consumers: &[Consumer<'_>], scope: &Scope<'_>, region: Option<&Region>, l: &For, from: Cursor) -> Result<Flow, Stop>
-        requires { Nests self.now.program.now self.now.limit self.now.depth (F.pre self.now.low) (F.post self.now.low) }
-        ensures { TellsFlow (turns_from (here self.now.program.now self.now.limit self.now.depth) (turn_of (here self.now.program.now self.now.limit self.now.depth) (consumers_of consumers.now) (consumer_in (region_at region.entry) (scope_of scope.now) l.now)) from (seen state.old)) result state.new }
-    {
-        let mut left = left(state, self.limit);
-        let mut cursor = from;
-        'turns: loop {
-            let Some(item) = next(self.alloc, state, self.limit, cursor)? else {
-                return Ok(ended(End::Next));
-            };
-            let flow = self.a_turn(state, consumers, scope, region, l, item.0)?;
-            if !goes_on(&flow) {
-                return Ok(flow);
-            }
-            if left == 0 {
-                return Err(Stop::OutOfFuel);
-            }
-            left -= 1;
-            cursor = item.1;
-        }
-    }
-
-    #[cycle(statement)]
-    fn a_turn(&self, state: &mut State, consumers: &[Consumer<'_>], scope: &Scope<'_>, region: Option<&Region>, l: &For, v: Value) -> Result<Flow, Stop>
-        requires { Nests self.now.program.now self.now.limit self.now.depth (F.pre self.now.low) (F.post self.now.low) }
-        ensures { TellsFlow (turn_of (here self.now.program.now self.now.limit self.now.depth) (consumers_of consumers.now) (consumer_in (region_at region.entry) (scope_of scope.now) l.now) v (seen state.old)) result state.new }
-    {
-        match region {
-            Some(region) => self.parallel_turn(state, consumers, region, scope, &l.names, &l.body, v),
-            None => self.body_turn(state, consumers, scope, &l.names, &l.body, v),
-        }
     }
 
     /// A turn of a loop.
