@@ -16,7 +16,7 @@ ghost use Rattle.source_meaning.specs.Tasks.{Nests, here, consumers_of, region_a
 
 use crate::captures::begin_stages;
 use crate::callee::{Builtin, Callee, resolve};
-use crate::cursor::{begun, next};
+use crate::cursor::next;
 use crate::flow::{End, Flow, after_loop, ended, goes_on};
 use crate::iterable::{Cursor, Iterable};
 use crate::iterations::{enter_iteration, finish_region, leave_iteration, start_region};
@@ -29,9 +29,19 @@ use crate::state::{State, Stop};
 use crate::task::{Consumer, Region, Task};
 use crate::variables::{fault, left, read_name, tick, wrong};
 use codon_base::{FaultKind, Spelling, Value, Values};
-use source_trees::{Expr, Joint, Stage, StageForm};
+use source_trees::{Expr, Joint, Printed, Stage, StageForm};
 use sqlite_items::Items;
 use std::alloc::Global;
+
+/// What comes of a stage: a value that it passes on, or the end of a loop that it made with all that comes after it.
+#[derive(Drop)]
+enum Passed {
+    On(Value),
+    Left(Flow),
+}
+
+/// How many loops of stages may be made in place one inside the other. The native stack bounds them.
+const MOST_NESTED: u32 = 256;
 
 impl<'m, F: Fn(Global, &Prepared<'_>, u64, u32, &mut State, &[Consumer<'_>], Task<'_>) -> Result<Flow, Stop>> Runner<'m, F> {
     /// A pipeline statement.
@@ -67,11 +77,19 @@ impl<'m, F: Fn(Global, &Prepared<'_>, u64, u32, &mut State, &[Consumer<'_>], Tas
         if let Some(stage) = stages.get(0) {
             if let (Joint::InTurn, StageForm::Iter) = (stage.joint, &stage.form) {
                 let goes_over = self.iterable(state, scope, head)?;
-                return self.stage_loop(state, consumers, scope, goes_over, region, stages, 1);
+                return self.head_loop(state, consumers, scope, goes_over, region, stages);
             }
         }
         let v = self.expr(state, scope, head)?;
         self.through(state, consumers, scope, region, stages, 0, v)
+    }
+
+    /// A loop over the head, with the stages after the first that take its items.
+    fn head_loop(&self, state: &mut State, consumers: &[Consumer<'_>], scope: &Scope<'_>, goes_over: Iterable<'m>, region: Option<&Region>, stages: &Items<Stage>) -> Result<Flow, Stop>
+        requires { Nests self.now.program.now self.now.limit self.now.depth (F.pre self.now.low) (F.post self.now.low) }
+    {
+        let flow = self.looped_stages(state, consumers, scope, goes_over, region, stages, 1)?;
+        Ok(after_loop(flow))
     }
 
     /// The stages from a place on, on a value.
@@ -80,19 +98,34 @@ impl<'m, F: Fn(Global, &Prepared<'_>, u64, u32, &mut State, &[Consumer<'_>], Tas
         requires { Nests self.now.program.now self.now.limit self.now.depth (F.pre self.now.low) (F.post self.now.low) }
         ensures { TellsFlow (spec.through (here self.now.program.now self.now.limit self.now.depth) (consumers_of consumers.now) (scope_of scope.now) (region_at region.entry) (drop place stages.now) v (seen state.old)) result state.new }
     {
-        let Some(stage) = stages.get(place) else {
-            return Ok(ended(End::Next));
-        };
-        match stage.joint {
-            Joint::InTurn => self.perform(state, consumers, scope, &stage.form, region, stages, place + 1, v),
-            Joint::InParallel => {
-                let Some(region) = region else {
-                    return Err(wrong(self.alloc));
-                };
-                tick(state, self.limit)?;
-                self.parallel_stage(state, consumers, scope, region, stage, stages, place + 1, v)
+        let mut at = place;
+        let mut passed = v;
+        'stages: while at < stages.len() {
+            let Some(stage) = stages.get(at) else {
+                return Ok(ended(End::Next));
+            };
+            at += 1;
+            if let Joint::InParallel = stage.joint {
+                return self.joined(state, consumers, scope, region, stage, stages, at, passed);
+            }
+            match self.pass(state, consumers, scope, &stage.form, region, stages, at, passed)? {
+                Passed::On(v) => passed = v,
+                Passed::Left(flow) => return Ok(flow),
             }
         }
+        Ok(ended(End::Next))
+    }
+
+    /// A value that reaches a stage of a region, with the stages from a place on after it.
+    #[cycle(pipeline)]
+    fn joined(&self, state: &mut State, consumers: &[Consumer<'_>], scope: &Scope<'_>, region: Option<&Region>, stage: &Stage, stages: &Items<Stage>, from: usize, v: Value) -> Result<Flow, Stop>
+        requires { Nests self.now.program.now self.now.limit self.now.depth (F.pre self.now.low) (F.post self.now.low) }
+    {
+        let Some(region) = region else {
+            return Err(wrong(self.alloc));
+        };
+        tick(state, self.limit)?;
+        self.parallel_stage(state, consumers, scope, region, stage, stages, from, v)
     }
 
     /// The iteration of a value that reaches a stage of a region, with the stages from a place on after it.
@@ -141,29 +174,51 @@ impl<'m, F: Fn(Global, &Prepared<'_>, u64, u32, &mut State, &[Consumer<'_>], Tas
         requires { Nests self.now.program.now self.now.limit self.now.depth (F.pre self.now.low) (F.post self.now.low) }
         ensures { TellsFlow (staged (here self.now.program.now self.now.limit self.now.depth) (consumers_of consumers.now) (scope_of scope.now) form.now (region_at region.entry) (drop from stages.now) v (seen state.old)) result state.new }
     {
-        match form {
-            StageForm::Iter => self.stage_loop(state, consumers, scope, Iterable::Items(v), region, stages, from),
-            StageForm::Call(name, before, behind) => {
-                let mut given = self.exprs(state, scope, before.as_slice())?;
-                let more = self.exprs(state, scope, behind.as_slice())?;
-                given.push(v)?;
-                given.append(more)?;
-                self.call_stage(state, consumers, scope, name, given, region, stages, from)
-            }
-            StageForm::Print(printed) => {
-                let mut piped = Items::new(self.alloc);
-                piped.push(v)?;
-                self.print_after(state, scope, piped, printed)?;
-                self.through(state, consumers, scope, region, stages, from, Value::Unit)
-            }
+        match self.pass(state, consumers, scope, form, region, stages, from, v)? {
+            Passed::On(v) => self.through(state, consumers, scope, region, stages, from, v),
+            Passed::Left(flow) => Ok(flow),
         }
     }
 
-    /// A stage by name on its arguments, and the stages from a place on.
+    /// What a stage does with a value. A loop is made whole, with the stages from a place on.
     #[cycle(pipeline)]
-    fn call_stage(&self, state: &mut State, consumers: &[Consumer<'_>], scope: &Scope<'_>, name: &Spelling, given: Values, region: Option<&Region>, stages: &Items<Stage>, from: usize) -> Result<Flow, Stop>
+    fn pass(&self, state: &mut State, consumers: &[Consumer<'_>], scope: &Scope<'_>, form: &StageForm, region: Option<&Region>, stages: &Items<Stage>, from: usize, v: Value) -> Result<Passed, Stop>
         requires { Nests self.now.program.now self.now.limit self.now.depth (F.pre self.now.low) (F.post self.now.low) }
-        ensures { TellsFlow (stage_called (here self.now.program.now self.now.limit self.now.depth) (consumers_of consumers.now) (scope_of scope.now) (callee (program_of self.now.program.now) (scope_of scope.now) name.now) name.now given (region_at region.entry) (drop from stages.now) (seen state.old)) result state.new }
+    {
+        match form {
+            StageForm::Iter => self.stage_loop(state, consumers, scope, Iterable::Items(v), region, stages, from),
+            StageForm::Call(name, before, behind) => {
+                let given = self.given_to(state, scope, before.as_slice(), v, behind.as_slice())?;
+                self.call_stage(state, consumers, scope, name, given, region, stages, from)
+            }
+            StageForm::Print(printed) => self.print_stage(state, scope, printed, v),
+        }
+    }
+
+    /// The arguments of a stage, with the piped value among them.
+    fn given_to(&self, state: &mut State, scope: &Scope<'_>, before: &[Expr], v: Value, behind: &[Expr]) -> Result<Values, Stop>
+        requires { Nests self.now.program.now self.now.limit self.now.depth (F.pre self.now.low) (F.post self.now.low) }
+    {
+        let mut given = self.exprs(state, scope, before)?;
+        let more = self.exprs(state, scope, behind)?;
+        given.push(v)?;
+        given.append(more)?;
+        Ok(given)
+    }
+
+    fn print_stage(&self, state: &mut State, scope: &Scope<'_>, printed: &Printed, v: Value) -> Result<Passed, Stop>
+        requires { Nests self.now.program.now self.now.limit self.now.depth (F.pre self.now.low) (F.post self.now.low) }
+    {
+        let mut piped = Items::new(self.alloc);
+        piped.push(v)?;
+        self.print_after(state, scope, piped, printed)?;
+        Ok(Passed::On(Value::Unit))
+    }
+
+    /// A stage by name on its arguments. A loop is made whole, with the stages from a place on.
+    #[cycle(pipeline)]
+    fn call_stage(&self, state: &mut State, consumers: &[Consumer<'_>], scope: &Scope<'_>, name: &Spelling, given: Values, region: Option<&Region>, stages: &Items<Stage>, from: usize) -> Result<Passed, Stop>
+        requires { Nests self.now.program.now self.now.limit self.now.depth (F.pre self.now.low) (F.post self.now.low) }
     {
         match resolve(self.program, scope, name) {
             Callee::Defined(called) => {
@@ -171,15 +226,15 @@ impl<'m, F: Fn(Global, &Prepared<'_>, u64, u32, &mut State, &[Consumer<'_>], Tas
                     return self.stage_loop(state, consumers, scope, Iterable::Generated(called, given), region, stages, from);
                 }
                 let v = self.call(state, called, given)?;
-                self.through(state, consumers, scope, region, stages, from, v)
+                Ok(Passed::On(v))
             }
             Callee::Constructor(c) => {
                 let v = self.construct(state, c, given)?;
-                self.through(state, consumers, scope, region, stages, from, v)
+                Ok(Passed::On(v))
             }
             Callee::Standard(which) => {
                 let v = self.call_builtin(state, which, given)?;
-                self.through(state, consumers, scope, region, stages, from, v)
+                Ok(Passed::On(v))
             }
             Callee::Variable => {
                 let _ = read_name(self.alloc, state, scope, name)?;
@@ -214,27 +269,29 @@ impl<'m, F: Fn(Global, &Prepared<'_>, u64, u32, &mut State, &[Consumer<'_>], Tas
 
     /// A loop over something, with the stages from a place on that take its items.
     #[cycle(pipeline)]
-    fn stage_loop(&self, state: &mut State, consumers: &[Consumer<'_>], scope: &Scope<'_>, goes_over: Iterable<'m>, region: Option<&Region>, stages: &Items<Stage>, from: usize) -> Result<Flow, Stop>
+    fn stage_loop(&self, state: &mut State, consumers: &[Consumer<'_>], scope: &Scope<'_>, goes_over: Iterable<'m>, region: Option<&Region>, stages: &Items<Stage>, from: usize) -> Result<Passed, Stop>
         requires { Nests self.now.program.now self.now.limit self.now.depth (F.pre self.now.low) (F.post self.now.low) }
-        ensures { TellsFlow (stage_loop (here self.now.program.now self.now.limit self.now.depth) (consumers_of consumers.now) (scope_of scope.now) (iterable_of goes_over.entry) (region_at region.entry) (drop from stages.now) (seen state.old)) result state.new }
     {
-        let flow = self.stage_turns(state, consumers, scope, goes_over, region, stages, from)?;
-        Ok(after_loop(flow))
+        let flow = self.looped_stages(state, consumers, scope, goes_over, region, stages, from)?;
+        Ok(Passed::Left(after_loop(flow)))
     }
 
     #[cycle(pipeline)]
-    fn stage_turns(&self, state: &mut State, consumers: &[Consumer<'_>], scope: &Scope<'_>, goes_over: Iterable<'m>, region: Option<&Region>, stages: &Items<Stage>, from: usize) -> Result<Flow, Stop>
+    fn looped_stages(&self, state: &mut State, consumers: &[Consumer<'_>], scope: &Scope<'_>, goes_over: Iterable<'m>, region: Option<&Region>, stages: &Items<Stage>, from: usize) -> Result<Flow, Stop>
         requires { Nests self.now.program.now self.now.limit self.now.depth (F.pre self.now.low) (F.post self.now.low) }
         ensures { TellsFlow (looped (here self.now.program.now self.now.limit self.now.depth) (consumers_of consumers.now) (iterable_of goes_over.entry) (Stages (scope_of scope.now) (region_at region.entry) (drop from stages.now)) (seen state.old)) result state.new }
     {
-        match goes_over {
-            Iterable::Generated(called, given) => self.generate(state, consumers, Consumer::Stages(*scope, region, stages, from), called, given),
-            Iterable::Items(container) => self.turns_through(state, consumers, scope, Cursor::Item(container, 0), region, stages, from),
-            Iterable::Numbers(start, stop, step) => {
-                let cursor = begun(self.alloc, state, &start, &stop, &step)?;
-                self.turns_through(state, consumers, scope, cursor, region, stages, from)
-            }
+        let mut cursor = Cursor::Ended;
+        if let Some(flow) = self.enter_loop(state, consumers, Consumer::Stages(*scope, region, stages, from), goes_over, &mut cursor)? {
+            return Ok(flow);
         }
+        if state.nested >= MOST_NESTED {
+            return Err(Stop::Memory);
+        }
+        state.nested += 1;
+        let flow = self.turns_through(state, consumers, scope, cursor, region, stages, from)?;
+        state.nested = state.nested.saturating_sub(1);
+        Ok(flow)
     }
 
     /// The turns of a loop in place.

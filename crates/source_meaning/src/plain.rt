@@ -119,6 +119,7 @@ fn new_state(alloc: Global) -> Result<State, Memory>
         reached: 0,
         regions: 0,
         items: 0,
+        nested: 0,
     })
 }
 

@@ -45,6 +45,8 @@ pub(crate) struct State {
     pub(crate) reached: u64,
     pub(crate) regions: u64,
     pub(crate) items: u64,
+    /// The loops of stages that are made in place one inside the other.
+    pub(crate) nested: u32,
 }
 
 /// Why a run stops early.
