@@ -1,5 +1,5 @@
 -- Steps on objects, variables and operators are the same in both runs, so a closed relation holds of them.
-use Rattle.std.proofs.Common.{◌≡◌, refl, ℕ, Bool, nat_lt, nat_le, List, [], ◌∷◌, length, Option, Some, None, ℤ, pos, ◌==◌}
+use Rattle.std.proofs.Common.{◌≡◌, ℕ, Bool, nat_lt, nat_le, List, [], ◌∷◌, length, Option, Some, None, ℤ, pos, ◌==◌}
 use Rattle.std.specs.Prelude.{codes}
 use Rattle.std.proofs.lemmas.List.{length-set}
 use Rattle.codon_base.specs.Levels.{replaced, added}

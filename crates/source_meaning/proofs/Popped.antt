@@ -1,5 +1,6 @@
 -- The last item of a list that is taken out.
-use Rattle.std.proofs.Common.{◌≡◌, ◌-◌, refl, ap, sym, subst, ◌∙◌, ℕ, suc, nat_lt, List, [], ◌∷◌, ◌++◌, length, take, Option, Some, None, negsuc}
+use Rattle.std.proofs.Common.{◌≡◌, ◌-◌, refl, ap, sym, subst, ◌∙◌, ℕ, suc, List, [], ◌∷◌, ◌++◌, length, take, Option, Some, None, negsuc, arith}
+use Rattle.std.proofs.lemmas.Bool.{lt-ltb}
 use Rattle.std.specs.Prelude.{slice_get, if◌then◌else◌}
 use Rattle.std.proofs.Math.Seq.{take-append_seam}
 use Rattle.codon_base.specs.declared.value.Ref.{Ref}
@@ -23,12 +24,17 @@ one_more : {A : Type 0} (xs : List A) (x : A) → length (xs ++ x ∷ []) ≡ su
 one_more [] x = refl
 one_more (y ∷ xs) x = ap suc (one_more xs x)
 
+last_place : (size n : ℕ) → size ≡ suc n → place_of size (negsuc 0) ≡ Some n
+last_place size n e = ap (λ b. if b then Some (size - 1) else None) (lt-ltb 0 size (omega arith)) ∙ ap Some (omega arith)
+
 -- the last item stands at the place that -1 names
 last_placed : {A : Type 0} (xs : List A) (x : A) → placed (xs ++ x ∷ []) (place_of (length (xs ++ x ∷ [])) (negsuc 0)) ≡ Some x
-last_placed xs x = ap (λ n. placed (xs ++ x ∷ []) (place_of n (negsuc 0))) (one_more xs x) ∙ last_item xs x
+last_placed xs x = ap (placed (xs ++ x ∷ [])) (last_place (length (xs ++ x ∷ [])) (length xs) (one_more xs x)) ∙ last_item xs x
 
 all_but_last : {A : Type 0} (xs : List A) (x : A) → take (length (xs ++ x ∷ []) - 1) (xs ++ x ∷ []) ≡ xs
-all_but_last xs x = ap (λ n. take (n - 1) (xs ++ x ∷ [])) (one_more xs x) ∙ take-append_seam xs (x ∷ [])
+all_but_last xs x =
+    let one : length (xs ++ x ∷ []) - 1 ≡ length xs = omega (arith, one_more xs x) in
+    ap (λ n. take n (xs ++ x ∷ [])) one ∙ take-append_seam xs (x ∷ [])
 
 same_items : (vs ws : List Value) → Some (Listed vs) ≡ Some (Listed ws) → vs ≡ ws
 same_items vs ws e = cc
@@ -38,7 +44,7 @@ no_items [] h = refl
 no_items (v ∷ vs) h = absurd h
 
 -- a run whose heap is this
-heap_of : State → List (List Object) → State
+abbrev heap_of : State → List (List Object) → State
 heap_of old levels = record old { store = record old.store { heap = levels } }
 
 popped_some : (old : State) (after : List (List Object)) (at : Ref) (rest : List Value) (v : Value) → after ≡ replaced old.store.heap at (Listed rest)
@@ -51,6 +57,7 @@ popped_some old after at rest v new =
 
 popped_none : (old : State) (after : List (List Object)) (at : Ref) → after ≡ old.store.heap
     → pop_last at [] (placed [] (place_of 0 (negsuc 0))) (seen old) ≡ index_fault (seen (heap_of old after))
+unfolding seen
 popped_none old after at new = ap (λ levels. index_fault {A = Value} (seen (heap_of old levels))) (sym new)
 
 -- what `pop` does where the list is there
@@ -59,7 +66,7 @@ pub popped_tells : (old : State) (after : List (List Object)) (at : Ref) (items 
 unfolding seen
 popped_tells old after at items (Some v) e (rest, (there, new)) =
     subst (λ vs. pop_last at vs (placed vs (place_of (length vs) (negsuc 0))) (seen old) ≡ Gives v (seen (heap_of old after)))
-      (sym (same_items items (rest ++ v ∷ []) (sym e ∙ there))) (popped_some old after at rest v new)
+    (sym (same_items items (rest ++ v ∷ []) (sym e ∙ there))) (popped_some old after at rest v new)
 popped_tells old after at items None e (empty, new) =
     subst (λ vs. pop_last at vs (placed vs (place_of (length vs) (negsuc 0))) (seen old) ≡ index_fault (seen (heap_of old after)))
-      (sym (no_items items (subst HasNoItem e empty))) (popped_none old after at new)
+    (sym (no_items items (subst HasNoItem e empty))) (popped_none old after at new)

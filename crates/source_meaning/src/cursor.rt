@@ -30,7 +30,13 @@ fn advanced(at: i64, stop: i64, step: i64) -> Cursor
     }
 }
 
-fn number_next(state: &mut State, limit: u64, at: i64, stop: i64, step: i64) -> Result<Option<(Value, Cursor)>, Stop>
+fn number_next(
+    state: &mut State,
+    limit: u64,
+    at: i64,
+    stop: i64,
+    step: i64,
+) -> Result<Option<(Value, Cursor)>, Stop>
     ensures { Tells (next_by in_place limit (cursors.Number at stop step) (seen state.old)) result state.new }
 {
     if !is_before(step, stop, at) {
@@ -40,7 +46,13 @@ fn number_next(state: &mut State, limit: u64, at: i64, stop: i64, step: i64) -> 
     Ok(Some((Value::Int(at), advanced(at, stop, step))))
 }
 
-fn item_next(alloc: Global, state: &mut State, limit: u64, container: Value, place: u64) -> Result<Option<(Value, Cursor)>, Stop>
+fn item_next(
+    alloc: Global,
+    state: &mut State,
+    limit: u64,
+    container: Value,
+    place: u64,
+) -> Result<Option<(Value, Cursor)>, Stop>
     ensures { Tells (next_by in_place limit (cursors.Item container place) (seen state.old)) result state.new }
 {
     let Some(v) = found_at(alloc, state, &container, place)? else {
@@ -54,7 +66,12 @@ fn item_next(alloc: Global, state: &mut State, limit: u64, container: Value, pla
 }
 
 /// The item of a turn, for which a tick is taken, and what comes after it, or the end.
-pub(crate) fn next(alloc: Global, state: &mut State, limit: u64, cursor: Cursor) -> Result<Option<(Value, Cursor)>, Stop>
+pub(crate) fn next(
+    alloc: Global,
+    state: &mut State,
+    limit: u64,
+    cursor: Cursor,
+) -> Result<Option<(Value, Cursor)>, Stop>
     ensures { Tells (next_by in_place limit cursor (seen state.old)) result state.new }
 {
     match cursor {
@@ -65,7 +82,13 @@ pub(crate) fn next(alloc: Global, state: &mut State, limit: u64, cursor: Cursor)
 }
 
 /// Where a range begins, whose step is not 0.
-pub(crate) fn begun(alloc: Global, state: &State, start: &Value, stop: &Value, step: &Value) -> Result<Cursor, Stop>
+pub(crate) fn begun(
+    alloc: Global,
+    state: &State,
+    start: &Value,
+    stop: &Value,
+    step: &Value,
+) -> Result<Cursor, Stop>
     ensures { Tells (begun start.now stop.now step.now (seen state.now)) result state.now }
 {
     let at = int_in(alloc, state, start)?;

@@ -43,7 +43,12 @@ pub(crate) fn settled(state: &mut State, made: Made) -> Result<Value, Stop>
 }
 
 /// `container[index]`.
-pub(crate) fn item_at(alloc: Global, state: &State, container: &Value, index: &Value) -> Result<Value, Stop>
+pub(crate) fn item_at(
+    alloc: Global,
+    state: &State,
+    container: &Value,
+    index: &Value,
+) -> Result<Value, Stop>
     ensures { Tells (spec.item_at in_place container.now index.now (seen state.now)) result state.now }
 {
     let index = int_in(alloc, state, index)?;
@@ -82,7 +87,13 @@ fn tuple_item(alloc: Global, state: &State, items: &[Value], index: i64) -> Resu
 }
 
 /// `container[index] = v`.
-pub(crate) fn put(alloc: Global, state: &mut State, container: &Value, index: &Value, v: Value) -> Result<(), Stop>
+pub(crate) fn put(
+    alloc: Global,
+    state: &mut State,
+    container: &Value,
+    index: &Value,
+    v: Value,
+) -> Result<(), Stop>
     ensures { Tells (spec.put in_place container.now index.now v (seen state.old)) result state.new }
 {
     let at = ref_in(alloc, state, container)?;
@@ -93,7 +104,12 @@ pub(crate) fn put(alloc: Global, state: &mut State, container: &Value, index: &V
 }
 
 /// The item that a loop over a list or a text finds at a place, where there is one.
-pub(crate) fn found_at(alloc: Global, state: &State, container: &Value, place: u64) -> Result<Option<Value>, Stop>
+pub(crate) fn found_at(
+    alloc: Global,
+    state: &State,
+    container: &Value,
+    place: u64,
+) -> Result<Option<Value>, Stop>
     ensures { Tells (spec.found_at in_place container.now place (seen state.now)) result state.now }
 {
     match container {
@@ -104,7 +120,12 @@ pub(crate) fn found_at(alloc: Global, state: &State, container: &Value, place: u
 }
 
 /// The text of the character at a place, where there is one.
-fn found_in_text(alloc: Global, state: &State, text: &Text, place: u64) -> Result<Option<Value>, Stop>
+fn found_in_text(
+    alloc: Global,
+    state: &State,
+    text: &Text,
+    place: u64,
+) -> Result<Option<Value>, Stop>
     ensures { Tells (spec.found_by in_place place (Value-F.Text text.now) (seen state.now)) result state.now }
 {
     if place >= text.len() as u64 {
@@ -116,7 +137,13 @@ fn found_in_text(alloc: Global, state: &State, text: &Text, place: u64) -> Resul
 }
 
 /// `v[from:to]`.
-pub(crate) fn slice(alloc: Global, state: &mut State, v: &Value, from: &Value, to: &Value) -> Result<Value, Stop>
+pub(crate) fn slice(
+    alloc: Global,
+    state: &mut State,
+    v: &Value,
+    from: &Value,
+    to: &Value,
+) -> Result<Value, Stop>
     ensures { Tells (spec.slice in_place (out-Value v.now) from.now to.now (seen state.old)) result state.new }
 {
     match v {
@@ -139,7 +166,13 @@ fn text_part(alloc: Global, text: &Text, from: &Value, to: &Value) -> Result<Val
 }
 
 /// A part of a list.
-fn list_part(alloc: Global, state: &mut State, at: Ref, from: &Value, to: &Value) -> Result<Value, Stop>
+fn list_part(
+    alloc: Global,
+    state: &mut State,
+    at: Ref,
+    from: &Value,
+    to: &Value,
+) -> Result<Value, Stop>
     ensures { Tells (spec.slice in_place (Value-F.Ref at) from.now to.now (seen state.old)) result state.new }
 {
     let items = list_at(alloc, state, at)?;
@@ -162,7 +195,13 @@ pub(crate) fn append(alloc: Global, state: &mut State, at: Ref, v: Value) -> Res
 }
 
 /// `v.name`.
-pub(crate) fn field(alloc: Global, state: &State, program: &Prepared<'_>, v: &Value, name: &Spelling) -> Result<Value, Stop>
+pub(crate) fn field(
+    alloc: Global,
+    state: &State,
+    program: &Prepared<'_>,
+    v: &Value,
+    name: &Spelling,
+) -> Result<Value, Stop>
     ensures { Tells (spec.field (program_of program.now) v.now name.now (seen state.now)) result state.now }
 {
     let at = ref_in(alloc, state, v)?;
@@ -173,7 +212,14 @@ pub(crate) fn field(alloc: Global, state: &State, program: &Prepared<'_>, v: &Va
 }
 
 /// `v.name = new`.
-pub(crate) fn set_field(alloc: Global, state: &mut State, program: &Prepared<'_>, v: &Value, name: &Spelling, new: Value) -> Result<(), Stop>
+pub(crate) fn set_field(
+    alloc: Global,
+    state: &mut State,
+    program: &Prepared<'_>,
+    v: &Value,
+    name: &Spelling,
+    new: Value,
+) -> Result<(), Stop>
     ensures { Tells (spec.set_field (program_of program.now) in_place v.now name.now new (seen state.old)) result state.new }
 {
     let at = ref_in(alloc, state, v)?;

@@ -1,4 +1,4 @@
-#![tactic(auto, unfolding(crate::specs::Outcome::bind, crate::specs::Outcome::pure, crate::specs::Outcome::stop), using(crate::proofs::Operated::operated))]
+#![tactic(auto, unfolding(crate::specs::Outcome::bind, crate::specs::Outcome::pure, crate::specs::Outcome::stop))]
 
 ghost use Rattle.codon_base.specs.declared.value.Value.{out-Value};
 ghost use Rattle.source_meaning.specs.Objects as objects;
@@ -18,21 +18,35 @@ use crate::lists::{other_place, size_fault};
 use crate::objects::{append, settled};
 use crate::state::{State, Stop, Store};
 use crate::variables::wrong;
-use codon_base::{Fault, FaultKind, Memory, Or, Ref, Spelling, Text, Value, Values, WalkEnd, show_whole};
+use codon_base::{
+    Fault, FaultKind, Memory, Or, Ref, Spelling, Text, Value, Values, WalkEnd, show_whole,
+};
 use source_trees::{BinaryOp, Comparator, UnaryOp};
 use std::alloc::Global;
 use value_operators as operators;
 use value_operators::Made;
 
 /// `v op w`.
-pub(crate) fn binary(alloc: Global, state: &mut State, by: BinaryOp, v: &Value, w: &Value) -> Result<Value, Stop>
+pub(crate) fn binary(
+    alloc: Global,
+    state: &mut State,
+    by: BinaryOp,
+    v: &Value,
+    w: &Value,
+) -> Result<Value, Stop>
     ensures { Tells (spec.binary in_place by v.now w.now (seen state.old)) result state.new }
 {
     let made = binary_made(alloc, &state.store, by, v, w)?;
     settled(state, made)
 }
 
-fn binary_made(alloc: Global, store: &Store, by: BinaryOp, v: &Value, w: &Value) -> Result<Made, Memory>
+fn binary_made(
+    alloc: Global,
+    store: &Store,
+    by: BinaryOp,
+    v: &Value,
+    w: &Value,
+) -> Result<Made, Memory>
     ensures { Makes result (spec.binary_made by (out-Value v.now) (out-Value w.now) (sight_of store.now)) }
 {
     match by {
@@ -69,14 +83,26 @@ fn unary_made(alloc: Global, by: UnaryOp, v: &Value) -> Result<Made, Memory>
 }
 
 /// `v op w` for a comparison.
-pub(crate) fn compared(alloc: Global, state: &mut State, by: Comparator, v: &Value, w: &Value) -> Result<Value, Stop>
+pub(crate) fn compared(
+    alloc: Global,
+    state: &mut State,
+    by: Comparator,
+    v: &Value,
+    w: &Value,
+) -> Result<Value, Stop>
     ensures { Tells (objects.operate in_place (spec.compared_made by v.now w.now) (seen state.old)) result state.new }
 {
     let made = compared_made(alloc, &state.store, by, v, w)?;
     settled(state, made)
 }
 
-fn compared_made(alloc: Global, store: &Store, by: Comparator, v: &Value, w: &Value) -> Result<Made, Memory>
+fn compared_made(
+    alloc: Global,
+    store: &Store,
+    by: Comparator,
+    v: &Value,
+    w: &Value,
+) -> Result<Made, Memory>
     ensures { Makes result (spec.compared_made by v.now w.now (sight_of store.now)) }
 {
     match by {
@@ -102,20 +128,44 @@ pub(crate) fn truth(alloc: Global, state: &State, v: &Value) -> Result<bool, Sto
 }
 
 /// A builtin on its arguments.
-pub(crate) fn builtin(alloc: Global, state: &mut State, which: Builtin, given: &[Value]) -> Result<Value, Stop>
+pub(crate) fn builtin(
+    alloc: Global,
+    state: &mut State,
+    which: Builtin,
+    given: &[Value],
+) -> Result<Value, Stop>
     ensures { Tells (spec.builtin in_place (builtin_of which) given.now (seen state.old)) result state.new }
 {
     match given {
-        [v] => {
-            let made = made_of_one(alloc, &state.store, which, v)?;
-            settled(state, made)
-        }
-        [v, w] => {
-            let made = made_of_two(alloc, which, v, w)?;
-            settled(state, made)
-        }
+        [v] => builtin_on_one(alloc, state, which, v),
+        [v, w] => builtin_on_two(alloc, state, which, v, w),
         _ => Err(wrong(alloc)),
     }
+}
+
+fn builtin_on_one(
+    alloc: Global,
+    state: &mut State,
+    which: Builtin,
+    v: &Value,
+) -> Result<Value, Stop>
+    ensures { Tells (objects.operate in_place (spec.on_one (builtin_of which) v.now) (seen state.old)) result state.new }
+{
+    let made = made_of_one(alloc, &state.store, which, v)?;
+    settled(state, made)
+}
+
+fn builtin_on_two(
+    alloc: Global,
+    state: &mut State,
+    which: Builtin,
+    v: &Value,
+    w: &Value,
+) -> Result<Value, Stop>
+    ensures { Tells (objects.operate in_place (λ sight. spec.on_two (builtin_of which) v.now w.now) (seen state.old)) result state.new }
+{
+    let made = made_of_two(alloc, which, v, w)?;
+    settled(state, made)
 }
 
 fn made_of_one(alloc: Global, store: &Store, which: Builtin, v: &Value) -> Result<Made, Memory>
@@ -156,7 +206,13 @@ fn wrong_made(alloc: Global) -> Result<Made, Memory>
 }
 
 /// A method of a list.
-pub(crate) fn list_method(alloc: Global, state: &mut State, name: &Spelling, at: Ref, given: Values) -> Result<Value, Stop>
+pub(crate) fn list_method(
+    alloc: Global,
+    state: &mut State,
+    name: &Spelling,
+    at: Ref,
+    given: Values,
+) -> Result<Value, Stop>
     ensures { Tells (spec.list_method in_place name.now at given (seen state.old)) result state.new }
 {
     let mut given = given;
@@ -188,7 +244,13 @@ fn method_without(alloc: Global, state: &mut State, name: &Spelling, at: Ref) ->
 }
 
 /// A method of a list with an argument.
-fn method_with(alloc: Global, state: &mut State, name: &Spelling, at: Ref, v: Value) -> Result<Value, Stop>
+fn method_with(
+    alloc: Global,
+    state: &mut State,
+    name: &Spelling,
+    at: Ref,
+    v: Value,
+) -> Result<Value, Stop>
     ensures { Tells (spec.method_with in_place name.now at v (seen state.old)) result state.new }
 {
     let name = name.as_slice();
@@ -226,7 +288,13 @@ fn walk_fault(alloc: Global, end: WalkEnd) -> Stop
 }
 
 /// What an augmented assignment makes of what stood there.
-pub(crate) fn updated(alloc: Global, state: &mut State, by: BinaryOp, old: Value, v: &Value) -> Result<Value, Stop>
+pub(crate) fn updated(
+    alloc: Global,
+    state: &mut State,
+    by: BinaryOp,
+    old: Value,
+    v: &Value,
+) -> Result<Value, Stop>
     ensures { Tells (statements.updated in_place by old v.now (seen state.old)) result state.new }
 {
     match (by, &old) {

@@ -74,7 +74,14 @@ fn push_bytes(out: &mut Bytes, bytes: &[u8]) -> Result<(), Memory>
 }
 
 /// The texts of values with one text between them, and another after them.
-fn joined(alloc: Global, state: &mut State, vs: &[Value], between: &Text, last: &Text) -> Result<Text, Stop>
+#[tactic(auto, unfolding(crate::specs::Outcome::pure), using(crate::proofs::Pieces::joined_last))]
+fn joined(
+    alloc: Global,
+    state: &mut State,
+    vs: &[Value],
+    between: &Text,
+    last: &Text,
+) -> Result<Text, Stop>
     ensures { Tells (joined in_place vs.now between.now last.now (seen state.old)) result state.new }
 {
     let mut piece = separated(alloc, state, vs, between)?;
@@ -94,7 +101,13 @@ fn separated(alloc: Global, state: &mut State, vs: &[Value], between: &Text) -> 
 }
 
 /// A text with the texts of more values after it, each with one text before it.
-fn followed(alloc: Global, state: &mut State, vs: &[Value], between: &Text, text: Text) -> Result<Text, Stop>
+fn followed(
+    alloc: Global,
+    state: &mut State,
+    vs: &[Value],
+    between: &Text,
+    text: Text,
+) -> Result<Text, Stop>
     ensures { Tells (followed in_place vs.now between.now text (seen state.old)) result state.new }
 {
     let mut piece = text;
@@ -116,20 +129,45 @@ fn print(alloc: Global, state: &mut State, vs: &[Value], ends: Ends) -> Result<(
     Ok(())
 }
 
-impl<'m, F: Fn(Global, &Prepared<'_>, u64, u32, &mut State, &[Consumer<'_>], Task<'_>) -> Result<Flow, Stop>> Runner<'m, F> {
-    fn ends(&self, state: &mut State, scope: &Scope<'_>, options: &PrintOptions) -> Result<Ends, Stop>
+impl<
+    'm,
+    F: Fn(
+        Global,
+        &Prepared<'_>,
+        u64,
+        u32,
+        &mut State,
+        &[Consumer<'_>],
+        Task<'_>,
+    ) -> Result<Flow, Stop>,
+> Runner<'m, F> {
+    fn ends(
+        &self,
+        state: &mut State,
+        scope: &Scope<'_>,
+        options: &PrintOptions,
+    ) -> Result<Ends, Stop>
         requires { Nests self.now.program.now self.now.limit self.now.depth (F.pre self.now.low) (F.post self.now.low) }
         ensures { TellsBy ends_of (spec.ends (here self.now.program.now self.now.limit self.now.depth) (scope_of scope.now) options.now (seen state.old)) result state.new }
     {
         match options {
-            PrintOptions::Neither => Ok(Ends { between: space(self.alloc)?, last: line_end(self.alloc)? }),
+            PrintOptions::Neither => Ok(Ends {
+                between: space(self.alloc)?,
+                last: line_end(self.alloc)?,
+            }),
             PrintOptions::Sep(sep) => {
                 let between = self.expr(state, scope, sep)?;
-                Ok(Ends { between, last: line_end(self.alloc)? })
+                Ok(Ends {
+                    between,
+                    last: line_end(self.alloc)?,
+                })
             }
             PrintOptions::End(last) => {
                 let last = self.expr(state, scope, last)?;
-                Ok(Ends { between: space(self.alloc)?, last })
+                Ok(Ends {
+                    between: space(self.alloc)?,
+                    last,
+                })
             }
             PrintOptions::SepEnd(sep, last) => {
                 let between = self.expr(state, scope, sep)?;
@@ -145,7 +183,13 @@ impl<'m, F: Fn(Global, &Prepared<'_>, u64, u32, &mut State, &[Consumer<'_>], Tas
     }
 
     /// `print(..)` after the values that were piped into it.
-    pub(crate) fn print_after(&self, state: &mut State, scope: &Scope<'_>, piped: Values, printed: &Printed) -> Result<(), Stop>
+    pub(crate) fn print_after(
+        &self,
+        state: &mut State,
+        scope: &Scope<'_>,
+        piped: Values,
+        printed: &Printed,
+    ) -> Result<(), Stop>
         requires { Nests self.now.program.now self.now.limit self.now.depth (F.pre self.now.low) (F.post self.now.low) }
         ensures { Tells (spec.print_after (here self.now.program.now self.now.limit self.now.depth) (scope_of scope.now) piped printed.now (seen state.old)) result state.new }
     {

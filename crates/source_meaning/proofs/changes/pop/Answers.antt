@@ -1,9 +1,11 @@
-use Rattle.std.proofs.Common.{◌≡◌, ◌∙◌, ap, List, length, Option, Some, None, negsuc}
+use Rattle.std.proofs.Common.{◌∙◌, ap, sym, List, length, Some, None, negsuc}
 use Rattle.codon_base.specs.declared.value.Value.{Value}
 use Rattle.codon_base.specs.Sequences.{place_of}
-use Rattle.source_meaning.specs.Outcome.{Outcome, and_then, bind}
+use Rattle.source_meaning.specs.Outcome.{Outcome, and_then, bind, stop}
 use Rattle.source_meaning.specs.Objects.{pop_last, placed}
 use Rattle.source_meaning.specs.Seen.{seen}
+use Rattle.source_meaning.specs.State.{Stop}
+use Rattle.source_meaning.specs.declared.state.State.{State}
 use Rattle.source_meaning.proofs.Popped.{popped_tells}
 use Rattle.source_meaning.proofs.changes.pop.Goals as goal
 
@@ -14,5 +16,9 @@ returns-in-Some c =
     ∙ popped_tells c.args.state.now c.item_popped.new.heap c.args.at c.in_ok-list_at.field-0.now (Some c.in-Some.v) c.in_ok-list_at.ensures.found c.in-Some.ensures
 
 pub returns-in-None : goal.returns-in-None
-unfolding bind seen
-returns-in-None c = ?
+unfolding bind seen stop
+returns-in-None c = λ wanted.
+    let new : State = record c.args.state.now { store = record c.args.state.now.store { heap = c.item_popped.new.heap } } in
+    ap (λ (o : Outcome (List Value)). and_then o (λ items. pop_last c.args.at items (placed items (place_of (length items) (negsuc 0))))) c.in_ok-list_at.ensures.items
+    ∙ popped_tells c.args.state.now c.item_popped.new.heap c.args.at c.in_ok-list_at.field-0.now None c.in_ok-list_at.ensures.found c.in-None.ensures
+    ∙ ap (λ (why : Stop). stop {A = Value} why (seen new)) (sym (c.index_fault.ensures wanted))

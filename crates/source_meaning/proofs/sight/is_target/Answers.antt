@@ -1,4 +1,4 @@
-use Rattle.std.proofs.Common.{◌≡◌, ◌∙◌, ap, sym, drop, map, List}
+use Rattle.std.proofs.Common.{◌∙◌, ap, sym, map}
 use Rattle.std.specs.List.{list_all}
 use Rattle.std.proofs.lemmas.List.{drop-map}
 use Rattle.source_meaning.specs.State as meaning
