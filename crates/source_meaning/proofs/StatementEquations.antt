@@ -13,10 +13,10 @@ use Rattle.source_trees.specs.declared.pipeline.Stage.{Stage}
 use Rattle.source_trees.specs.declared.statement.ParOptions.{ParOptions}
 use Rattle.source_trees.specs.declared.statement.Target.{Target}
 use Rattle.source_trees.specs.declared.statement.Targets.{Targets}
-use Rattle.source_trees.specs.declared.statement.Arm.{Arm}
-use Rattle.source_trees.specs.declared.statement.For.{For}
+use Rattle.source_trees.specs.declared.statement.Arm.{Arm, out-Arm, roll-out-Arm}
+use Rattle.source_trees.specs.declared.statement.For.{For, out-For, roll-out-For}
 use Rattle.source_trees.specs.declared.statement.Stmt.{Stmt, Stmt-F}
-use Rattle.source_trees.specs.declared.statement.Stmt.TheFolds.{para-Arm, para-For, para-roll-Stmt, para_out-Arm, para_out-For}
+use Rattle.source_trees.specs.declared.statement.Stmt.TheFolds.{para-Arm, para-For, para-roll-Stmt, para-roll-Arm, para-roll-For}
 use Rattle.source_trees.specs.declared.statement.Stmt.TheVariants as d
 use Rattle.source_meaning.specs.State.{State, Flow, Next, Break, Continue}
 use Rattle.source_meaning.specs.Outcome.{Run, ◌>>=◌, pure, bind}
@@ -44,7 +44,7 @@ module _ (here : Setting) (consumers : List Consumer) where
 
   arm_is : (arm : Arm) → arm_does arm ≡ (λ scope otherwise. condition here scope arm.condition >>= λ t. if t then statements here consumers scope arm.body else otherwise)
   unfolding stmt
-  arm_is arm = para_out-Arm Does Chooses Loop (spec.stmt_step here consumers) (spec.arm_step here consumers) (spec.for_step here consumers) arm
+  arm_is arm = ap arm_does (sym (roll-out-Arm arm)) ∙ para-roll-Arm Does Chooses Loop (spec.stmt_step here consumers) (spec.arm_step here consumers) (spec.for_step here consumers) (out-Arm arm)
 
   arms_paired : (scope : Scope) (arms : List Arm) (otherwise : List Stmt) → spec.arms_or here consumers scope (map (λ arm. (arm, arm_does arm)) arms) (statements here consumers scope otherwise) ≡ chosen here consumers scope arms otherwise
   arms_paired scope [] otherwise = refl
@@ -52,7 +52,7 @@ module _ (here : Setting) (consumers : List Consumer) where
 
   loop_is : (l : For) → loop_does l ≡ record { names = l.names; iterable = l.iterable; body = map (λ each. (each, stmt here consumers each)) l.body }
   unfolding stmt
-  loop_is l = para_out-For Does Chooses Loop (spec.stmt_step here consumers) (spec.arm_step here consumers) (spec.for_step here consumers) l
+  loop_is l = ap loop_does (sym (roll-out-For l)) ∙ para-roll-For Does Chooses Loop (spec.stmt_step here consumers) (spec.arm_step here consumers) (spec.for_step here consumers) (out-For l)
 
   for_paired : (scope : Scope) (l : For) → spec.for_loop here consumers scope (loop_does l) ≡ for_of here consumers scope l
   for_paired scope l = ap (spec.for_loop here consumers scope) (loop_is l) ∙ (λ i. iterable here scope l.iterable >>= λ goes_over. over here consumers goes_over (Body scope l.names (trees_paired l.body i)) (spec.body_turn here consumers scope l.names (statements here consumers scope l.body)) >>= λ flow. pure (after_loop flow))

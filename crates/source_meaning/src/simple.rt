@@ -232,7 +232,7 @@ impl<'m, F: Fn(Global, &Prepared<'_>, u64, u32, &mut State, &[Consumer<'_>], Tas
     /// `name: annotation = e`.
     pub(crate) fn annotation(&self, state: &mut State, scope: &Scope<'_>, name: &Name, e: &Option<Expr>) -> Result<Flow, Stop>
         requires { Nests self.now.program.now self.now.limit self.now.depth (F.pre self.now.low) (F.post self.now.low) }
-        ensures { TellsFlow (spec.done (spec.annotated (here self.now.program.now self.now.limit self.now.depth) (scope_of scope.now) name.now e.now) (seen state.old)) result state.new }
+        ensures { TellsFlow (spec.done (here self.now.program.now self.now.limit self.now.depth) (spec.annotated (here self.now.program.now self.now.limit self.now.depth) (scope_of scope.now) name.now e.now) (seen state.old)) result state.new }
     {
         self.annotated(state, scope, name, e)?;
         Ok(ended(End::Next))
@@ -241,7 +241,7 @@ impl<'m, F: Fn(Global, &Prepared<'_>, u64, u32, &mut State, &[Consumer<'_>], Tas
     /// `targets = e`.
     pub(crate) fn assignment(&self, state: &mut State, scope: &Scope<'_>, written: &Targets, e: &Expr) -> Result<Flow, Stop>
         requires { Nests self.now.program.now self.now.limit self.now.depth (F.pre self.now.low) (F.post self.now.low) }
-        ensures { TellsFlow (spec.done (bind (expr (here self.now.program.now self.now.limit self.now.depth) (scope_of scope.now) e.now) (spec.assign_all (here self.now.program.now self.now.limit self.now.depth) (scope_of scope.now) written.now)) (seen state.old)) result state.new }
+        ensures { TellsFlow (spec.done (here self.now.program.now self.now.limit self.now.depth) (bind (expr (here self.now.program.now self.now.limit self.now.depth) (scope_of scope.now) e.now) (spec.assign_all (here self.now.program.now self.now.limit self.now.depth) (scope_of scope.now) written.now)) (seen state.old)) result state.new }
     {
         let v = self.expr(state, scope, e)?;
         self.assign_all(state, scope, written, v)?;
@@ -251,7 +251,7 @@ impl<'m, F: Fn(Global, &Prepared<'_>, u64, u32, &mut State, &[Consumer<'_>], Tas
     /// `target op= e`.
     pub(crate) fn augmented(&self, state: &mut State, scope: &Scope<'_>, written: &Target, by: BinaryOp, e: &Expr) -> Result<Flow, Stop>
         requires { Nests self.now.program.now self.now.limit self.now.depth (F.pre self.now.low) (F.post self.now.low) }
-        ensures { TellsFlow (spec.done (spec.update (here self.now.program.now self.now.limit self.now.depth) (scope_of scope.now) written.now by e.now) (seen state.old)) result state.new }
+        ensures { TellsFlow (spec.done (here self.now.program.now self.now.limit self.now.depth) (spec.update (here self.now.program.now self.now.limit self.now.depth) (scope_of scope.now) written.now by e.now) (seen state.old)) result state.new }
     {
         self.update(state, scope, written, by, e)?;
         Ok(ended(End::Next))
@@ -269,7 +269,7 @@ impl<'m, F: Fn(Global, &Prepared<'_>, u64, u32, &mut State, &[Consumer<'_>], Tas
     /// `print(..)`.
     pub(crate) fn print_statement(&self, state: &mut State, scope: &Scope<'_>, printed: &Printed) -> Result<Flow, Stop>
         requires { Nests self.now.program.now self.now.limit self.now.depth (F.pre self.now.low) (F.post self.now.low) }
-        ensures { TellsFlow (spec.done (print_after (here self.now.program.now self.now.limit self.now.depth) (scope_of scope.now) [] printed.now) (seen state.old)) result state.new }
+        ensures { TellsFlow (spec.done (here self.now.program.now self.now.limit self.now.depth) (print_after (here self.now.program.now self.now.limit self.now.depth) (scope_of scope.now) [] printed.now) (seen state.old)) result state.new }
     {
         self.print_after(state, scope, Items::new(self.alloc), printed)?;
         Ok(ended(End::Next))
