@@ -1,5 +1,5 @@
 -- Calls, loops, generators and the beginnings of regions under a closed relation.
-use Rattle.std.proofs.Common.{ℕ, zero, suc, ◌≤◌, ◌==◌, Bool, false, if◌then◌else◌, List, [], ◌∷◌, length, slice_get, Option, Some, None, ℤ, pos, negsuc, ◌+ℤ◌, arith}
+use Rattle.std.proofs.Common.{◌≡◌, ℕ, zero, suc, ◌≤◌, ◌==◌, Bool, false, if◌then◌else◌, List, [], ◌∷◌, length, slice_get, Option, Some, None, ℤ, pos, negsuc, ◌+ℤ◌, ap, arith}
 use Rattle.codon_base.specs.declared.value.Value.{Value}
 use Rattle.codon_base.specs.declared.value.Value.TheVariants as value
 use Rattle.codon_base.specs.declared.object.Object.TheVariants.{Instance}
@@ -19,6 +19,12 @@ use Rattle.source_meaning.specs.Loops as loops
 use Rattle.source_meaning.specs.Loops.{Iterable, Numbers, Items, Generated}
 use Rattle.source_meaning.proofs.Closed.{Relation, Closed, chain, gives, pick}
 use Rattle.source_meaning.proofs.ClosedObjects.{allocate_closed, one_of_closed, int_in_closed, ref_in_closed, found_at_closed, instance_at_closed, read_name_closed}
+
+none_more : (n : ℕ) → zero ≡ suc n → ⊥
+none_more n e = omega arith
+
+one_less : (n k : ℕ) → suc n ≡ suc k → n ≡ k
+one_less n k e = omega arith
 
 module _ (program : Program) {R : Relation} {rules : Rules} {limit more : ℕ} {low high : List Consumer → Task → Run Flow} (c : Closed R rules limit more low high) where
   abbrev pub here : Setting
@@ -50,7 +56,7 @@ module _ (program : Program) {R : Relation} {rules : Rules} {limit more : ℕ} {
   result_closed f Continue = pick c (gives_value f.body) (c.stops _ _ _) (gives c value.Unit)
 
   enter_closed : (known : Known) (vs : List Value) → R 0 Value (calls.enter here known vs) (calls.enter there known vs)
-  enter_closed known vs = chain c (c.ticks _) (λ _. chain c (c.frames _ _ _ _ _ (c.lows [] _)) (λ flow. result_closed known.function flow))
+  enter_closed known vs = c.enters _ _ _ _ (λ _. c.binds_ticked _ _ _ _ _ _ _ (c.frames_ticked _ _ _ _ _ (c.lows [] _)) (λ flow. result_closed known.function flow))
 
   pub call_closed : (known : Known) (given : List Value) → R 0 Value (calls.call here known given) (calls.call there known given)
   call_closed known given = pick c (yields known.function.body) (c.stops _ _ _) (chain c (one_of_closed c (calls.arguments known.function.params given)) (λ vs. enter_closed known vs))
@@ -84,13 +90,14 @@ module _ (program : Program) {R : Relation} {rules : Rules} {limit more : ℕ} {
     turns_equal zero a = c.stops _ _ _
     turns_equal (suc k) a = chain c (nexts a) (λ o. shown_closed o _ _ (λ v b. chain c (each v) (λ flow. after_turn_closed flow (turns_equal k b))))
 
-    turns_closed : (k l : ℕ) → k ≤ l → (a : A) → R n Flow (loops.turns next turn k a) (loops.turns after deed l a)
-    turns_closed zero l h a = c.cuts _ _ _ _ (turns_equal l a)
-    turns_closed (suc k) zero h a = absurd (omega arith)
-    turns_closed (suc k) (suc l) h a = chain c (nexts a) (λ o. shown_closed o _ _ (λ v b. chain c (each v) (λ flow. after_turn_closed flow (turns_closed k l (omega arith) b))))
+    turns_closed : (k l : ℕ) → k ≤ l → (limit ≡ more → k ≡ l) → (a : A) → R n Flow (loops.turns next turn k a) (loops.turns after deed l a)
+    turns_closed zero zero h same a = c.stops _ _ _
+    turns_closed zero (suc l) h same a = c.cuts (λ e. none_more l (same e)) _ _ _ _ (turns_equal (suc l) a)
+    turns_closed (suc k) zero h same a = absurd (omega arith)
+    turns_closed (suc k) (suc l) h same a = chain c (nexts a) (λ o. shown_closed o _ _ (λ v b. chain c (each v) (λ flow. after_turn_closed flow (turns_closed k l (omega arith) (λ e. one_less k l (same e)) b))))
 
     pub loop_closed : (a : A) → R n Flow (loops.loop limit next turn a) (loops.loop more after deed a)
-    loop_closed a = c.fuels _ _ _ _ (λ left right h. turns_closed (suc left) (suc right) (omega arith) a)
+    loop_closed a = c.fuels _ _ _ _ (λ left right h same. turns_closed (suc left) (suc right) (omega arith) (λ e. ap suc (same e)) a)
 
   pub ticked_closed : {n : ℕ} {A : Type 0} (a : A) → R n (Option A) (loops.ticked limit a) (loops.ticked more a)
   ticked_closed a = chain c (c.ticks _) (λ _. gives c _)
@@ -116,11 +123,11 @@ module _ (program : Program) {R : Relation} {rules : Rules} {limit more : ℕ} {
   -- ---- generators
 
   generate_closed : (consumers : List Consumer) (consumer : Consumer) (known : Known) (vs : List Value) → R (length consumers) Flow (loops.generate here consumers consumer known vs) (loops.generate there consumers consumer known vs)
-  generate_closed consumers consumer known vs = chain c (c.ticks _) (λ _. chain c (c.generates _ _ _ _ _ (c.lows (consumer ∷ consumers) _)) (λ flow. gives c _))
+  generate_closed consumers consumer known vs = c.enters _ _ _ _ (λ _. c.binds_ticked _ _ _ _ _ _ _ (c.generates_ticked _ _ _ _ _ (c.lows (consumer ∷ consumers) _)) (λ flow. gives c _))
 
   pub yield_closed : (consumers : List Consumer) (v : Value) → R (length consumers) Flow (loops.yield here consumers v) (loops.yield there consumers v)
   yield_closed [] v = c.stops _ _ _
-  yield_closed (consumer ∷ below) v = chain c (c.suspends _ _ _ _ (chain c (c.ticks _) (λ _. c.lows below _))) (λ flow. gives c _)
+  yield_closed (consumer ∷ below) v = chain c (c.suspends _ _ _ _ (c.enters _ _ _ _ (λ _. c.lows below _))) (λ flow. gives c _)
 
   pub over_closed : (consumers : List Consumer) (goes_over : Iterable) (consumer : Consumer) (turn deed : Value → Run Flow) → ((v : Value) → R (length consumers) Flow (turn v) (deed v)) → R (length consumers) Flow (loops.over here consumers goes_over consumer turn) (loops.over there consumers goes_over consumer deed)
   over_closed consumers (Numbers start stop step) consumer turn deed e =

@@ -1,4 +1,4 @@
--- Runs to a depth under a closed relation: at equal depths for any word for 'deeper', and at more depth where that word is being out of fuel.
+-- Runs to a depth under a closed relation: at equal depths for any word for 'deeper', and at more depth where that word may stand for any run.
 use Rattle.std.proofs.Common.{ℕ, zero, suc, ◌≤◌, List, length, arith}
 use Rattle.source_meaning.specs.State.{Stop, OutOfFuel, Flow}
 use Rattle.source_meaning.specs.Outcome.{Run, stop}
@@ -16,8 +16,9 @@ module _ (program : Program) (R : Relation) (rules : Rules) (limit more : ℕ)
   runs_equal deep zero consumers t = stops _ _ _
   runs_equal deep (suc n) consumers t = task_closed program (close (run program rules limit deep n) (run program rules more deep n) (runs_equal deep n)) consumers t
 
-  pub runs_closed : (n k : ℕ) → n ≤ k → (consumers : List Consumer) (t : Task) → R (length consumers) Flow (run program rules limit OutOfFuel n consumers t) (run program rules more OutOfFuel k consumers t)
-  unfolding run
-  runs_closed zero k h consumers t = (close (run program rules limit OutOfFuel k) (run program rules more OutOfFuel k) (runs_equal OutOfFuel k)).cuts _ _ _ _ (runs_equal OutOfFuel k consumers t)
-  runs_closed (suc n) zero h consumers t = absurd (omega arith)
-  runs_closed (suc n) (suc k) h consumers t = task_closed program (close (run program rules limit OutOfFuel n) (run program rules more OutOfFuel k) (runs_closed n k (omega arith))) consumers t
+  module _ (deep : Stop) (cuts : (n : ℕ) (A : Type 0) (p q : Run A) → R n A p q → R n A (stop deep) q) where
+    pub runs_closed : (n k : ℕ) → n ≤ k → (consumers : List Consumer) (t : Task) → R (length consumers) Flow (run program rules limit deep n consumers t) (run program rules more OutOfFuel k consumers t)
+    unfolding run
+    runs_closed zero k h consumers t = cuts _ _ _ _ (runs_equal OutOfFuel k consumers t)
+    runs_closed (suc n) zero h consumers t = absurd (omega arith)
+    runs_closed (suc n) (suc k) h consumers t = task_closed program (close (run program rules limit deep n) (run program rules more OutOfFuel k) (runs_closed n k (omega arith))) consumers t

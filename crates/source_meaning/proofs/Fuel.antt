@@ -1,191 +1,58 @@
--- More fuel, and deeper calls, change no run that ends, and a run that is cut off has printed the beginning of what it prints on more.
--- The relation says both of two runs from one state, and that the longer one prints on from there; the last is what lets a run that is cut off be followed by anything.
-use Rattle.std.proofs.Common.{◌≡◌, ℕ, suc, ◌-◌, ◌≤◌, Bool, true, false, if◌then◌else◌, nat_lt, ◌&&◌, List, [], ◌∷◌, ◌++◌, length, refl, sym, ap, subst, ◌∙◌, arith}
+-- More fuel, and deeper calls, change no run that ends, and a run that is cut off has printed the beginning of what it prints on more. The ends are open: where both runs have the same fuel, a run that is out of it ends too.
+use Rattle.std.proofs.Common.{◌≡◌, ◌≢◌, ℕ, ◌-◌, ◌≤◌, Bool, true, false, if◌then◌else◌, nat_lt, List, length, refl, sym, ap, subst, arith}
 use Rattle.std.proofs.lemmas.Bool.Decides.{nat_tests}
-use Rattle.std.proofs.lemmas.List.{append-nil, append_assoc}
-use Rattle.codon_base.specs.declared.object.Object.{Object}
-use Rattle.codon_base.specs.declared.value.Value.{Value}
-use Rattle.source_meaning.specs.State.{Spelling, Names, Iteration, Shared, State, Stop, Faulted, OutOfFuel, TooDeep, Flow}
-use Rattle.source_meaning.specs.Outcome.{Outcome, Gives, Stops, Run, and_then, bind, pure, stop, tick, by_fuel, look, change_names, change_globals, change_levels, write, framed, generating, woken, suspended, resumed, in_iteration, item_reached, is_next, is_outside, counted, counting}
-use Rattle.source_meaning.specs.Task.{Region, Consumer, Task}
+use Rattle.source_meaning.specs.State.{State, Stop, OutOfFuel, Flow}
+use Rattle.source_meaning.specs.Outcome.{Outcome, Gives, Stops, Run, bind, tick, by_fuel}
+use Rattle.source_meaning.specs.Task.{Consumer, Task}
 use Rattle.source_meaning.specs.Iterations.{in_place}
 use Rattle.source_meaning.proofs.Closed.{Relation, Closed}
+use Rattle.source_meaning.proofs.Longer.{out_of, Begins, begins_itself, Later, Longer, same_step, pures_later, stops_later, looks_later, names_later, globals_later, levels_later, writes_later, binds_later, frames_later, generates_later, suspends_later, counting_later, items_later, cuts_later}
 
-abbrev pub state_of : {A : Type 0} → Outcome A → State
-state_of (Gives a s) = s
-state_of (Stops why s) = s
-
-abbrev pub out_of : {A : Type 0} → Outcome A → List ℕ
-out_of o = (state_of o).shared.out
-
--- a stop that is not for want of fuel
-abbrev pub IsFinal : Stop → Type 0
-IsFinal (Faulted f) = Unit {0}
-IsFinal OutOfFuel = ⊥
-IsFinal TooDeep = Unit {0}
-
--- a run that is not cut off for want of fuel
-abbrev pub Ends : {A : Type 0} → Outcome A → Type 0
-Ends (Gives a s) = Unit {0}
-Ends (Stops why s) = IsFinal why
-
-abbrev pub Begins : List ℕ → List ℕ → Type 0
-Begins xs ys = (rest : List ℕ) × (ys ≡ xs ++ rest)
-
-begins_itself : (xs : List ℕ) → Begins xs xs
-begins_itself xs = ([], sym (append-nil xs))
-
-begins_on : (xs ys zs : List ℕ) → Begins xs ys → Begins ys zs → Begins xs zs
-begins_on xs ys zs p q = (p.0 ++ q.0, q.1 ∙ ap (λ l. l ++ q.0) p.1 ∙ append_assoc xs p.0 q.0)
-
--- what two runs came to from a state where this had been printed
-pub record Later (A : Type 0) (before : List ℕ) (x y : Outcome A) : Type 0 where
-  pub stays : Ends x → y ≡ x
-  pub grows : Begins before (out_of y)
-  pub begins : Begins (out_of x) (out_of y)
-
-abbrev pub Fuelled : Relation
-Fuelled n A p q = (s : State) → Later A s.shared.out (p s) (q s)
-
--- a step that is the same in both runs
-same_step : {A : Type 0} (before : List ℕ) (x : Outcome A) → Begins before (out_of x) → Later A before x x
-same_step before x g = record { stays = λ h. refl; grows = g; begins = begins_itself _ }
-
-quiet_step : {A : Type 0} (s : State) (a : A) (t : State) → t.shared.out ≡ s.shared.out → Later A s.shared.out (Gives a t) (Gives a t)
-quiet_step s a t e = same_step _ _ ([], e ∙ sym (append-nil _))
-
-grown_then : {A B : Type 0} (y : Outcome A) (l : A → Run B) → ((a : A) (t : State) → Begins t.shared.out (out_of (l a t))) → Begins (out_of y) (out_of (and_then y l))
-grown_then (Gives a t) l e = e a t
-grown_then (Stops why t) l e = begins_itself _
-
-later_then : {A B : Type 0} (before : List ℕ) (x y : Outcome A) (k l : A → Run B) → Later A before x y → ((a : A) (t : State) → Later B t.shared.out (k a t) (l a t)) → Later B before (and_then x k) (and_then y l)
-later_then before (Gives a t) y k l p q = subst (λ o. Later _ before (k a t) (and_then o l)) (sym (p.stays tt)) (record { stays = (q a t).stays; grows = begins_on _ _ _ (subst (λ o. Begins before (out_of o)) (p.stays tt) p.grows) (q a t).grows; begins = (q a t).begins })
-later_then before (Stops why t) y k l p q = record {
-  stays = λ h. ap (λ o. and_then o l) (p.stays h);
-  grows = begins_on _ _ _ p.grows (grown_then y l (λ a u. (q a u).grows));
-  begins = begins_on _ _ _ p.begins (grown_then y l (λ a u. (q a u).grows));
-}
-
--- what comes after a run and prints nothing
-later_then_quiet : {A B : Type 0} (before : List ℕ) (x y : Outcome A) (b : A → State → B) (t : A → State → State) → ((a : A) (u : State) → (t a u).shared.out ≡ u.shared.out) → Later A before x y → Later B before (and_then x (λ a u. Gives (b a u) (t a u))) (and_then y (λ a u. Gives (b a u) (t a u)))
-later_then_quiet before x y b t e p = later_then before x y _ _ p (λ a u. quiet_step u (b a u) (t a u) (e a u))
-
--- ---- the steps
-
-pub stops_later : (n : ℕ) (A : Type 0) (why : Stop) → Fuelled n A (stop why) (stop why)
-unfolding stop
-stops_later n A why s = same_step _ _ (begins_itself _)
-
-pures_later : (n : ℕ) (A : Type 0) (a : A) → Fuelled n A (pure a) (pure a)
-unfolding pure
-pures_later n A a s = same_step _ _ (begins_itself _)
-
-looks_later : (n : ℕ) (A : Type 0) (seen : State → A) → Fuelled n A (look seen) (look seen)
-unfolding look
-looks_later n A seen s = same_step _ _ (begins_itself _)
-
-names_later : (n : ℕ) (change : Names → Names) → Fuelled n (Unit {0}) (change_names change) (change_names change)
-unfolding change_names
-names_later n change s = same_step _ _ (begins_itself _)
-
-globals_later : (n : ℕ) (change : Names → Names) → Fuelled n (Unit {0}) (change_globals change) (change_globals change)
-unfolding change_globals
-globals_later n change s = same_step _ _ (begins_itself _)
-
-levels_later : (n : ℕ) (change : List (List Object) → List (List Object)) → Fuelled n (Unit {0}) (change_levels change) (change_levels change)
-unfolding change_levels
-levels_later n change s = same_step _ _ (begins_itself _)
-
-reached_later : (n : ℕ) → Fuelled n (Unit {0}) item_reached item_reached
-unfolding item_reached
-reached_later n s = same_step _ _ (begins_itself _)
-
-writes_later : (n : ℕ) (bytes : List ℕ) → Fuelled n (Unit {0}) (write bytes) (write bytes)
-unfolding write
-writes_later n bytes s = same_step _ _ (bytes, refl)
-
-binds_later : (n : ℕ) (A B : Type 0) (p q : Run A) (k l : A → Run B) → Fuelled n A p q → ((a : A) → Fuelled n B (k a) (l a)) → Fuelled n B (bind p k) (bind q l)
-unfolding bind
-binds_later n A B p q k l e h s = later_then _ (p s) (q s) k l (e s) (λ a t. h a t)
-
-frames_later : (n : ℕ) (A : Type 0) (names : Names) (p q : Run A) → Fuelled n A p q → Fuelled n A (framed names p) (framed names q)
-unfolding framed
-frames_later n A names p q e s = later_then_quiet _ _ _ _ _ (λ a u. refl) (e (record s { names = names }))
-
-woken_later : {A : Type 0} (a : A) (waiting : List Names) (t : State) → Later A t.shared.out (woken a waiting t) (woken a waiting t)
-unfolding stop
-woken_later a [] t = same_step _ _ (begins_itself _)
-woken_later a (names ∷ waiting) t = same_step _ _ (begins_itself _)
-
-generates_later : (n : ℕ) (A : Type 0) (names : Names) (p q : Run A) → Fuelled (suc n) A p q → Fuelled n A (generating names p) (generating names q)
-unfolding generating
-generates_later n A names p q e s = later_then _ _ _ _ _ (e (record s { names = names; waiting = s.names ∷ s.waiting })) (λ a t. woken_later a t.waiting t)
-
-resumed_later : {A : Type 0} (p q : Run A) → ((s : State) → Later A s.shared.out (p s) (q s)) → (waiting : List Names) (s : State) → Later A s.shared.out (resumed p waiting s) (resumed q waiting s)
-unfolding stop
-resumed_later p q e [] s = same_step _ _ (begins_itself _)
-resumed_later p q e (names ∷ waiting) s = later_then_quiet _ _ _ _ _ (λ a u. refl) (e (record s { names = names; waiting = waiting }))
-
-suspends_later : (n : ℕ) (A : Type 0) (p q : Run A) → Fuelled n A p q → Fuelled (suc n) A (suspended p) (suspended q)
-unfolding suspended
-suspends_later n A p q e s = resumed_later p q e s.waiting s
-
-cuts_later : (n : ℕ) (A : Type 0) (p q : Run A) → Fuelled n A p q → Fuelled n A (stop OutOfFuel) q
-unfolding stop
-cuts_later n A p q e s = record { stays = λ h. absurd h; grows = (e s).grows; begins = (e s).grows }
-
-iterations_later : (n : ℕ) (A : Type 0) (iteration : Iteration) (own own_globals : List Spelling) (p q : Run A) → Fuelled n A p q → Fuelled n A (in_iteration iteration own own_globals p) (in_iteration iteration own own_globals q)
-unfolding in_iteration
-iterations_later n A iteration own own_globals p q e s = later_then_quiet _ _ _ _ _ (λ a u. refl) (e _)
-
-counted_out : (counts : Bool) (before after : Shared) → (counted counts before after).out ≡ after.out
-counted_out true before after = refl
-counted_out false before after = refl
-
-counting_later : (n : ℕ) (p q : Run Flow) → Fuelled n Flow p q → Fuelled n Flow (counting p) (counting q)
-unfolding counting
-counting_later n p q e s = later_then_quiet _ _ _ _ _ (λ flow u. counted_out (is_outside s.shared.iterations && is_next flow) s.shared u.shared) (e _)
-
-items_later : (n : ℕ) (region : Region) (v : Value) (p q : Run Flow) → Fuelled n Flow p q → Fuelled n Flow (in_place.item region v p) (in_place.item region v q)
-items_later n region v p q e = binds_later n _ _ _ _ _ _ (reached_later n) (λ _. iterations_later n _ _ _ _ p q e)
-
--- ---- fuel
-
-tick_either : {A : Type 0} (before : List ℕ) (x : Outcome A) (s : State) (b c : Bool) → (b ≡ true → c ≡ true) → before ≡ s.shared.out → Begins before (out_of x) → Later A before (if b then x else Stops OutOfFuel s) (if c then x else Stops OutOfFuel s)
-tick_either before x s true c f e g = subst (λ t. Later _ before x (if t then x else Stops OutOfFuel s)) (sym (f refl)) (same_step _ _ g)
-tick_either before x s false true f e g = record { stays = λ h. absurd h; grows = g; begins = subst (λ l. Begins l (out_of x)) e g }
-tick_either before x s false false f e g = same_step _ _ (subst (λ l. Begins before l) e (begins_itself before))
+tick_either : (final : Stop → Type 0) {A : Type 0} (before : List ℕ) (x : Outcome A) (s : State) (b c : Bool) → (b ≡ true → c ≡ true) → (b ≡ false → c ≡ true → final OutOfFuel → ⊥) → before ≡ s.shared.out → Begins before (out_of x) → Later final A before (if b then x else Stops OutOfFuel s) (if c then x else Stops OutOfFuel s)
+tick_either final before x s true c f d e g = subst (λ t. Later final _ before x (if t then x else Stops OutOfFuel s)) (sym (f refl)) (same_step final _ _ g)
+tick_either final before x s false true f d e g = record { stays = λ h. absurd (d refl refl h); grows = g; begins = subst (λ l. Begins l (out_of x)) e g }
+tick_either final before x s false false f d e g = same_step final _ _ (subst (λ l. Begins before l) e (begins_itself before))
 
 more_left : (used limit more : ℕ) → limit ≤ more → nat_lt used limit ≡ true → nat_lt used more ≡ true
 more_left used limit more le h = grind (arith, nat_tests)
 
-module _ (limit more : ℕ) (le : limit ≤ more) where
-  ticks_later : (n : ℕ) → Fuelled n (Unit {0}) (tick limit) (tick more)
+unlike : (used limit more : ℕ) → nat_lt used limit ≡ false → nat_lt used more ≡ true → limit ≢ more
+unlike used limit more a b e = grind (arith, nat_tests)
+
+module _ (final : Stop → Type 0) (limit more : ℕ) (le : limit ≤ more) (more_is_no_end : limit ≢ more → final OutOfFuel → ⊥) where
+  ticks_later : (n : ℕ) → Longer final n (Unit {0}) (tick limit) (tick more)
   unfolding tick
-  ticks_later n s = tick_either _ _ s (nat_lt s.shared.used limit) (nat_lt s.shared.used more) (more_left s.shared.used limit more le) refl (begins_itself _)
+  ticks_later n s =
+      tick_either final _ _ s (nat_lt s.shared.used limit) (nat_lt s.shared.used more) (more_left s.shared.used limit more le)
+      (λ a b. more_is_no_end (unlike s.shared.used limit more a b)) refl (begins_itself _)
 
-  fuels_later : (n : ℕ) (A : Type 0) (k l : ℕ → Run A) → ((a b : ℕ) → a ≤ b → Fuelled n A (k a) (l b)) → Fuelled n A (by_fuel limit k) (by_fuel more l)
+  fuels_later : (n : ℕ) (A : Type 0) (k l : ℕ → Run A) → ((a b : ℕ) → a ≤ b → (limit ≡ more → a ≡ b) → Longer final n A (k a) (l b)) → Longer final n A (by_fuel limit k) (by_fuel more l)
   unfolding by_fuel
-  fuels_later n A k l e s = e (limit - s.shared.used) (more - s.shared.used) (omega arith) s
+  fuels_later n A k l e s = e (limit - s.shared.used) (more - s.shared.used) (omega arith) (λ h. ap (λ m. m - s.shared.used) h) s
 
-  pub fuelled : (low high : List Consumer → Task → Run Flow) → ((consumers : List Consumer) (t : Task) → Fuelled (length consumers) Flow (low consumers t) (high consumers t)) → Closed Fuelled in_place limit more low high
+  pub fuelled : (low high : List Consumer → Task → Run Flow) → ((consumers : List Consumer) (t : Task) → Longer final (length consumers) Flow (low consumers t) (high consumers t)) → Closed (Longer final) in_place limit more low high
   fuelled low high lows = record {
-    pures = pures_later;
-    stops = stops_later;
-    looks = looks_later;
-    changes_names = names_later;
-    changes_globals = globals_later;
-    changes_levels = λ n change e. levels_later n change;
-    writes = writes_later;
+    pures = pures_later final;
+    stops = stops_later final;
+    looks = looks_later final;
+    changes_names = names_later final;
+    changes_globals = globals_later final;
+    changes_levels = λ n change e. levels_later final n change;
+    writes = writes_later final;
     ticks = ticks_later;
     fuels = fuels_later;
-    binds = binds_later;
-    frames = frames_later;
-    generates = generates_later;
-    suspends = suspends_later;
-    regions = λ n region p q e. counting_later n p q e;
-    items = items_later;
-    cuts = cuts_later;
+    binds = binds_later final;
+    frames = frames_later final;
+    generates = generates_later final;
+    suspends = suspends_later final;
+    regions = λ n region p q e. counting_later final n p q e;
+    items = items_later final;
+    cuts = λ different. cuts_later final OutOfFuel (more_is_no_end different);
     lifts = λ n A p q e. e;
+    Ticked = Longer final;
+    enters = λ n A k l e. binds_later final n (Unit {0}) A (tick limit) (tick more) k l (ticks_later n) e;
+    binds_ticked = binds_later final;
+    frames_ticked = frames_later final;
+    generates_ticked = generates_later final;
     lows = lows;
   }

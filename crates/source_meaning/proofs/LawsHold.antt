@@ -2,7 +2,7 @@
 use Rattle.std.proofs.Common.{◌≡◌, ◌≢◌, ℕ, suc, ◌≤◌, [], ◌++◌, refl, sym, ap, ◌∙◌, arith}
 use Rattle.codon_base.specs.declared.fault.Ending.TheVariants as ending
 use Rattle.source_trees.specs.declared.item.Module.{Module}
-use Rattle.source_meaning.specs.State.{Faulted, OutOfFuel, TooDeep, Flow}
+use Rattle.source_meaning.specs.State.{Stop, Faulted, OutOfFuel, TooDeep, Flow}
 use Rattle.source_meaning.specs.Outcome.{Outcome, Gives, Stops}
 use Rattle.source_meaning.specs.Program.{program_of, module_scope, statements_of}
 use Rattle.source_meaning.specs.Task.{Enter}
@@ -10,19 +10,27 @@ use Rattle.source_meaning.specs.Iterations.{in_place}
 use Rattle.source_meaning.specs.Meaning.{outcome, meaning_of, start}
 use Rattle.source_meaning.specs.Laws.{LawOfFuel, PrintsMore}
 use Rattle.source_meaning.proofs.ClosedRuns.{runs_closed}
-use Rattle.source_meaning.proofs.Fuel.{Ends, out_of, Later, Fuelled, stops_later, fuelled}
+use Rattle.source_meaning.proofs.Longer.{Ends, out_of, Later, Longer, stops_later, cuts_later}
+use Rattle.source_meaning.proofs.Fuel.{fuelled}
 
-outcome_later : (m : Module) (fuel more : ℕ) → fuel ≤ more → Later Flow [] (outcome m fuel fuel OutOfFuel) (outcome m more more OutOfFuel)
+-- a stop that is not for want of fuel
+abbrev IsFinal : Stop → Type 0
+IsFinal (Faulted f) = Unit {0}
+IsFinal OutOfFuel = ⊥
+IsFinal TooDeep = Unit {0}
+
+outcome_later : (m : Module) (fuel more : ℕ) → fuel ≤ more → Later IsFinal Flow [] (outcome m fuel fuel OutOfFuel) (outcome m more more OutOfFuel)
 unfolding outcome
-outcome_later m fuel more le = runs_closed (program_of m) Fuelled in_place fuel more stops_later (fuelled fuel more le) (suc fuel) (suc more) (omega arith) [] (Enter (module_scope m) (statements_of m)) start
+outcome_later m fuel more le =
+    runs_closed (program_of m) (Longer IsFinal) in_place fuel more (stops_later IsFinal) (fuelled IsFinal fuel more le (λ different h. h)) OutOfFuel (cuts_later IsFinal OutOfFuel (λ h. h)) (suc fuel) (suc more) (omega arith) [] (Enter (module_scope m) (statements_of m)) start
 
-ends_of : (o : Outcome Flow) → (meaning_of o).ending ≢ ending.OutOfFuel → Ends o
+ends_of : (o : Outcome Flow) → (meaning_of o).ending ≢ ending.OutOfFuel → Ends IsFinal o
 ends_of (Gives flow s) h = tt
 ends_of (Stops (Faulted f) s) h = tt
 ends_of (Stops OutOfFuel s) h = h refl
 ends_of (Stops TooDeep s) h = tt
 
-bytes_are : (o : Outcome Flow) → (meaning_of o).bytes ≡ out_of o
+pub bytes_are : (o : Outcome Flow) → (meaning_of o).bytes ≡ out_of o
 bytes_are (Gives flow s) = refl
 bytes_are (Stops why s) = refl
 

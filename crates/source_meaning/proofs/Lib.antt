@@ -5,8 +5,10 @@ mod ClosedExpressions
 mod ClosedPipelines
 mod ClosedStatements
 mod ClosedRuns
+mod Longer
 mod Fuel
 pub mod LawsHold
+pub mod Depths
 pub mod Waiting
 pub mod BodyEquations
 pub mod NoteEquations
@@ -29,6 +31,11 @@ pub mod Over
 pub mod MethodCalls
 pub mod Assigns
 pub mod Rounds
+pub mod Capturing
+pub mod Answered
+pub mod Tops
+pub mod Deeper
+pub mod Modules
 pub mod Changed
 pub mod Operated
 pub mod Popped

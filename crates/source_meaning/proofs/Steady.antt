@@ -126,9 +126,9 @@ module _ (limit : ℕ) where
   unfolding tick
   ticks_steady n s = tick_steady _ _ s _ (nat_lt s.shared.used limit) refl refl
 
-  fuels_steady : (n : ℕ) (A : Type 0) (k l : ℕ → Run A) → ((a b : ℕ) → a ≤ b → Steady n A (k a) (l b)) → Steady n A (by_fuel limit k) (by_fuel limit l)
+  fuels_steady : (n : ℕ) (A : Type 0) (k l : ℕ → Run A) → ((a b : ℕ) → a ≤ b → (limit ≡ limit → a ≡ b) → Steady n A (k a) (l b)) → Steady n A (by_fuel limit k) (by_fuel limit l)
   unfolding by_fuel
-  fuels_steady n A k l e s = e (limit - s.shared.used) (limit - s.shared.used) (omega arith) s
+  fuels_steady n A k l e s = e (limit - s.shared.used) (limit - s.shared.used) (omega arith) (λ h. refl) s
 
   pub steady : (low high : List Consumer → Task → Run Flow) → ((consumers : List Consumer) (t : Task) → Steady (length consumers) Flow (low consumers t) (high consumers t)) → Closed Steady in_place limit limit low high
   steady low high lows = record {
@@ -147,8 +147,13 @@ module _ (limit : ℕ) where
     suspends = suspends_steady;
     regions = λ n region p q e. counting_steady n p q e;
     items = items_steady;
-    cuts = λ n A p q e. e;
+    cuts = λ different n A p q e. e;
     lifts = λ n A p q e. e;
+    Ticked = Steady;
+    enters = λ n A k l e. binds_steady n (Unit {0}) A (tick limit) (tick limit) k l (ticks_steady n) e;
+    binds_ticked = binds_steady;
+    frames_ticked = frames_steady;
+    generates_ticked = generates_steady;
     lows = lows;
   }
 

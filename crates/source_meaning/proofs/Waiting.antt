@@ -142,9 +142,9 @@ module _ (limit : ℕ) where
   unfolding tick
   ticks_kept n s below w = tick_kept n below s _ (nat_lt s.shared.used limit) w
 
-  fuels_kept : (n : ℕ) (A : Type 0) (k l : ℕ → Run A) → ((a b : ℕ) → a ≤ b → Keeping n A (k a) (l b)) → Keeping n A (by_fuel limit k) (by_fuel limit l)
+  fuels_kept : (n : ℕ) (A : Type 0) (k l : ℕ → Run A) → ((a b : ℕ) → a ≤ b → (limit ≡ limit → a ≡ b) → Keeping n A (k a) (l b)) → Keeping n A (by_fuel limit k) (by_fuel limit l)
   unfolding by_fuel
-  fuels_kept n A k l e s below w = e (limit - s.shared.used) (limit - s.shared.used) (omega arith) s below w
+  fuels_kept n A k l e s below w = e (limit - s.shared.used) (limit - s.shared.used) (omega arith) (λ h. refl) s below w
 
   keeping : (low high : List Consumer → Task → Run Flow) → ((consumers : List Consumer) (t : Task) → Keeping (length consumers) Flow (low consumers t) (high consumers t)) → Closed Keeping in_place limit limit low high
   keeping low high lows = record {
@@ -163,8 +163,13 @@ module _ (limit : ℕ) where
     suspends = suspends_kept;
     regions = λ n region p q e. counting_kept n p q e;
     items = items_kept;
-    cuts = λ n A p q e. e;
+    cuts = λ different n A p q e. e;
     lifts = lifts_kept;
+    Ticked = Keeping;
+    enters = λ n A k l e. binds_kept n (Unit {0}) A (tick limit) (tick limit) k l (ticks_kept n) e;
+    binds_ticked = binds_kept;
+    frames_ticked = frames_kept;
+    generates_ticked = generates_kept;
     lows = lows;
   }
 

@@ -22,6 +22,10 @@ flag_of None = false
 abbrev pub flagged : List Bool → ℕ → Bool
 flagged flags place = flag_of (slice_get flags place)
 
+abbrev pub one_if : {A : Type 0} → Bool → A → List A
+one_if true x = x ∷ []
+one_if false x = []
+
 -- which of them notes call
 abbrev pub flags_of : List mentions.Note → List program.Callable → List Bool
 flags_of notes = map (λ callable. list_any (is_called_by callable) notes)

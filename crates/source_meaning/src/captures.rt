@@ -283,14 +283,22 @@ fn region_of(alloc: Global, heap: &Heap, scope: &Scope<'_>, own: &[Spelling], le
     Ok(Region { lent: lists, targets, own: local, own_globals })
 }
 
-/// The module's variables that the functions mention that a text reaches, without those that were read already.
-fn module_names(alloc: Global, program: &Prepared<'_>, scope: &Scope<'_>, outer: &[Spelling], notes: &[Note<'_>]) -> Result<Items<Spelling>, Memory>
-    ensures { IfOk result (λ names. names ≡ spec.module_names (program_of program.now) (scope_of scope.now) outer.now (noted notes.now)) }
+/// The notes of the functions and methods that a text reaches, but for their own names.
+fn reached_notes<'m>(alloc: Global, program: &Prepared<'m>, notes: &[Note<'m>]) -> Result<Vec<Note<'m>>, Memory>
+    ensures { IfOk result (λ outside. noted outside.items ≡ flat_map spec.notes_outside (spec.reached (program_of program.now) (noted notes.now))) }
 {
     let flags = reached_flags(alloc, &program.callables, notes)?;
     let mut outside = Vec::new(alloc);
     let ones = flagged_ones(alloc, &program.callables, &flags)?;
     push_outside(alloc, &ones, &mut outside)?;
+    Ok(outside)
+}
+
+/// The module's variables that the functions mention that a text reaches, without those that were read already.
+fn module_names(alloc: Global, program: &Prepared<'_>, scope: &Scope<'_>, outer: &[Spelling], notes: &[Note<'_>]) -> Result<Items<Spelling>, Memory>
+    ensures { IfOk result (λ names. names ≡ spec.module_names (program_of program.now) (scope_of scope.now) outer.now (noted notes.now)) }
+{
+    let outside = reached_notes(alloc, program, notes)?;
     let mut names = Items::new(alloc);
     push_module_names(alloc, program, scope, outer, &outside, &mut names)?;
     Ok(names)

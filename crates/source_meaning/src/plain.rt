@@ -2,8 +2,9 @@
 
 ghost use Rattle.std.specs.Prelude.{◌≡◌, [], IfOk};
 ghost use Rattle.std.specs.List.{flat_map};
-ghost use Rattle.source_meaning.specs.Meaning.{turn_of, task, outcome, start};
-ghost use Rattle.source_meaning.specs.Plain.{IsRun};
+ghost use Rattle.source_meaning.specs.Meaning as runs;
+ghost use Rattle.source_meaning.specs.Meaning.{turn_of, outcome, meaning, start};
+ghost use Rattle.source_meaning.specs.Plain.{item_of, IsRun, IsEnd, IsMeant};
 ghost use Rattle.source_meaning.specs.Program as spec;
 ghost use Rattle.source_meaning.specs.Program.{module_scope, statement_in};
 ghost use Rattle.source_meaning.specs.Scopes.{scope_of};
@@ -45,7 +46,7 @@ impl<'m, F: Fn(Global, &Prepared<'_>, u64, u32, &mut State, &[Consumer<'_>], Tas
     /// A body that is entered, or a turn.
     fn task(&self, state: &mut State, consumers: &[Consumer<'_>], task: Task<'_>) -> Result<Flow, Stop>
         requires { Nests self.now.program.now self.now.limit self.now.depth (F.pre self.now.low) (F.post self.now.low) }
-        ensures { TellsFlow (task (here self.now.program.now self.now.limit self.now.depth) (consumers_of consumers.now) (task_of task.entry) (seen state.old)) result state.new }
+        ensures { TellsFlow (runs.task (here self.now.program.now self.now.limit self.now.depth) (consumers_of consumers.now) (task_of task.entry) (seen state.old)) result state.new }
     {
         match task {
             Task::Enter(scope, body) => self.block(state, consumers, &scope, body),
@@ -76,17 +77,28 @@ impl<'m, F: Fn(Global, &Prepared<'_>, u64, u32, &mut State, &[Consumer<'_>], Tas
         self.block(state, consumers, scope, body)
     }
 
+    /// What an item of a module does when the module runs.
+    fn item(&self, state: &mut State, scope: &Scope<'_>, item: &Item) -> Result<Flow, Stop>
+        requires { Nests self.now.program.now self.now.limit self.now.depth (F.pre self.now.low) (F.post self.now.low) }
+        ensures { TellsFlow (item_of (here self.now.program.now self.now.limit self.now.depth) (scope_of scope.now) item.now (seen state.old)) result state.new }
+    {
+        match item {
+            Item::Stmt(s) => self.statement(state, &[], scope, s),
+            Item::Function(_) => Ok(ended(End::Next)),
+            Item::Class(_) => Ok(ended(End::Next)),
+        }
+    }
+
     /// The statements of a module, in order.
+    #[tactic(auto, using(crate::proofs::Tops::top_rules))]
     fn top(&self, state: &mut State, scope: &Scope<'_>, items: &[Item]) -> Result<Flow, Stop>
         requires { Nests self.now.program.now self.now.limit self.now.depth (F.pre self.now.low) (F.post self.now.low) }
         ensures { TellsFlow (statements (here self.now.program.now self.now.limit self.now.depth) [] (scope_of scope.now) (flat_map statement_in items.now) (seen state.old)) result state.new }
     {
         'items: for item in items {
-            if let Item::Stmt(s) = item {
-                let flow = self.statement(state, &[], scope, s)?;
-                if !is_next(&flow) {
-                    return Ok(flow);
-                }
+            let flow = self.item(state, scope, item)?;
+            if !is_next(&flow) {
+                return Ok(flow);
             }
         }
         Ok(ended(End::Next))
@@ -100,11 +112,12 @@ fn run_to(alloc: Global, program: &Prepared<'_>, limit: u64, depth: u32, state: 
     if depth == 0 {
         return Err(Stop::TooDeep);
     }
-    let runner = Runner { alloc, program, limit, depth: depth - 1, low: run_to };
+    let runner = Runner { alloc, program: &*program, limit, depth: depth - 1, low: run_to };
     runner.task(state, consumers, task)
 }
 
 /// Nothing has run.
+#[tactic(auto, unfolding(crate::specs::Seen::seen))]
 fn new_state(alloc: Global) -> Result<State, Memory>
     ensures { IfOk result (λ state. seen state ≡ start) }
 {
@@ -125,7 +138,7 @@ fn new_state(alloc: Global) -> Result<State, Memory>
 
 /// The module's variables that no region has as private ones.
 fn fixed_names(alloc: Global, module: &Module) -> Result<Items<Spelling>, Memory>
-    ensures { IfOk result (λ names. names ≡ (module_scope module.now).fixed) }
+    ensures { IfOk result (λ names. names ≡ (module_scope «module».now).fixed) }
 {
     let mut fixed = Items::new(alloc);
     push_variables(alloc, module.items.as_slice(), false, &mut fixed)?;
@@ -134,9 +147,9 @@ fn fixed_names(alloc: Global, module: &Module) -> Result<Items<Spelling>, Memory
 
 /// Runs the statements of a module.
 fn run_module(alloc: Global, program: &Prepared<'_>, module: &Module, fuel: u64, depth: u32, state: &mut State) -> Result<Flow, Stop>
-    requires program { program_of program.now ≡ spec.program_of module.now }
+    requires program { program_of program.now ≡ spec.program_of «module».now }
     requires begins { seen state.old ≡ start }
-    ensures { TellsFlow (outcome module.now fuel depth TooDeep) result state.new }
+    ensures { TellsFlow (outcome «module».now fuel depth TooDeep) result state.new }
 {
     let fixed = fixed_names(alloc, module)?;
     let scope = Scope { inner: &[], locals: &[], fixed: fixed.as_slice(), in_prelude: false };
@@ -159,7 +172,8 @@ fn told(flow: Result<Flow, Stop>, out: Bytes) -> Result<Plain, Memory>
 
 /// What a module prints and how it ends on so much fuel, where at most `depth` bodies of functions, generators and loops over generators are entered and not left.
 pub fn run_plain(alloc: Global, module: &Module, fuel: u64, depth: u32) -> Result<Plain, Memory>
-    ensures { IfOk result (λ plain. IsRun (outcome module.now fuel depth TooDeep) plain.out plain.end) }
+    ensures run { IfOk result (λ plain. IsRun (outcome «module».now fuel depth TooDeep) plain.out plain.end) }
+    ensures meant { IfOk result (λ plain. IsMeant (meaning «module».now fuel) plain.out plain.end) }
 {
     let first = prelude(alloc)?;
     let program = prepare(alloc, module, &first)?;

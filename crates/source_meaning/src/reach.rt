@@ -3,11 +3,11 @@
 #![tactic(auto, using(crate::proofs::BodyEquations::list_rules))]
 
 ghost use Rattle.std.specs.Prelude.{◌≡◌, ◌++◌, length, map, OnOk, IfOk};
-ghost use Rattle.std.specs.List.{flat_map};
+ghost use Rattle.std.specs.List.{flat_map, list_any};
 ghost use Rattle.source_meaning.specs.Captures as spec;
 ghost use Rattle.source_meaning.specs.Noted.{note_of, noted};
 ghost use Rattle.source_meaning.specs.Tasks.{callable_of};
-ghost use Rattle.source_meaning.specs.Reaching.{flagged, picked, flags_of, flags_within};
+ghost use Rattle.source_meaning.specs.Reaching.{flagged, one_if, picked, flags_of, flags_within};
 
 use crate::mentions::{Note, note_body, push_others};
 use crate::names::same;
@@ -52,13 +52,24 @@ fn calls_method(name: &Spelling, note: Note<'_>) -> bool
     }
 }
 
+fn is_called(callable: &Callable<'_>, notes: &[Note<'_>]) -> bool
+    ensures { result ≡ list_any (spec.is_called_by (callable_of callable.now)) (noted notes.now) }
+{
+    'notes: for note in notes {
+        if is_called_by(callable, *note) {
+            return true;
+        }
+    }
+    false
+}
+
 /// Which functions and methods notes call.
 fn called_flags(alloc: Global, callables: &[Callable<'_>], notes: &[Note<'_>]) -> Result<Vec<bool>, Memory>
     ensures { IfOk result (λ flags. flags.items ≡ flags_of (noted notes.now) (map callable_of callables.now)) }
 {
     let mut flags = Vec::new(alloc);
     'callables: for callable in callables {
-        flags.push(notes.iter().any(|note| is_called_by(callable, *note)))?;
+        flags.push(is_called(callable, notes))?;
     }
     Ok(flags)
 }
@@ -73,17 +84,23 @@ fn is_flagged(flags: &[bool], place: usize) -> bool
     }
 }
 
+fn push_flagged<'m>(callable: &Callable<'m>, flags: &[bool], place: usize, ones: &mut Vec<Callable<'m>>) -> Result<(), Memory>
+    ensures { OnOk result (map callable_of ones.new.items ≡ map callable_of ones.old.items ++ one_if (flagged flags.now place) (callable_of callable.now)) }
+{
+    if is_flagged(flags, place) {
+        ones.push(*callable)?;
+    }
+    Ok(())
+}
+
 /// The flagged functions and methods.
-#[tactic(auto, using(crate::proofs::BodyEquations::list_rules, crate::proofs::Rounds::picked_next))]
 pub(crate) fn flagged_ones<'m>(alloc: Global, callables: &[Callable<'m>], flags: &[bool]) -> Result<Vec<Callable<'m>>, Memory>
     ensures { IfOk result (λ ones. map callable_of ones.items ≡ picked (map callable_of callables.now) flags.now) }
 {
     let mut ones = Vec::new(alloc);
     let mut place = 0;
     'callables: for callable in callables {
-        if is_flagged(flags, place) {
-            ones.push(*callable)?;
-        }
+        push_flagged(callable, flags, place, &mut ones)?;
         place += 1;
     }
     Ok(ones)
