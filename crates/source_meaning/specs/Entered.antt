@@ -1,14 +1,16 @@
 -- How a loop begins and makes its turns in place, one after another: what is left of it where it has begun, and the step that gives the item of a turn to the loop's names.
-use Rattle.std.specs.Prelude.{◌≡◌, ◌≢◌, ℕ, Bool, true, false, Option, Some, None, Result, Ok, Err}
+use Rattle.std.specs.Prelude.{◌≡◌, ◌≢◌, ℕ, Bool, true, false, if◌then◌else◌, Option, Some, None, Result, Ok, Err}
 use Rattle.codon_base.specs.declared.value.Value.{Value}
 use Rattle.source_trees.specs.declared.statement.LoopNames.{LoopNames}
 use Rattle.source_meaning.specs.State as meaning
-use Rattle.source_meaning.specs.Outcome.{Outcome, Gives, Stops, Run, ◌>>=◌, pure}
+use Rattle.source_meaning.specs.Outcome.{Outcome, Gives, Stops, Run, ◌>>=◌, pure, and_then}
+use Rattle.source_meaning.specs.Frames.{with_names}
 use Rattle.source_meaning.specs.Program.{Scope}
 use Rattle.source_meaning.specs.Task.{Rules}
 use Rattle.source_meaning.specs.Variables.{set_loop_names}
 use Rattle.source_meaning.specs.Cursors.{next_by}
-use Rattle.source_meaning.specs.Seen.{seen, flow_of, why_of}
+use Rattle.source_meaning.specs.Seen.{seen, names_of, flow_of, why_of}
+use Rattle.source_meaning.specs.declared.expressions.Gathering.{Gathering}
 use Rattle.source_meaning.specs.declared.flow.Flow.{Flow}
 use Rattle.source_meaning.specs.declared.iterable.Cursor.{Cursor}
 use Rattle.source_meaning.specs.declared.state.State.{State}
@@ -35,3 +37,18 @@ abbrev pub TellsStep : Outcome (Option Cursor) → Result Bool Stop → Cursor �
 TellsStep outcome (Ok true) at new = outcome ≡ Gives (Some at) (seen new)
 TellsStep outcome (Ok false) at new = outcome ≡ Gives None (seen new)
 TellsStep outcome (Err e) at new = e ≢ stop.Memory → outcome ≡ Stops (why_of e) (seen new)
+
+-- ---- comprehensions
+
+-- a comprehension whose loop was left: the names before it come back
+abbrev pub gathering_ends : Value → meaning.Names → meaning.Flow → Run Value
+gathering_ends list own flow t = Gives list (with_names own t)
+
+-- what is left of a comprehension that has begun, by its list and the names before it
+abbrev pub left_of_gathering : (Value → Cursor → Run meaning.Flow) → Gathering → Cursor → Run Value
+left_of_gathering turns begun at s =
+    if begun.is_whole then Gives begun.list (with_names (names_of begun.own) s) else and_then (turns begun.list at s) (gathering_ends begun.list (names_of begun.own))
+
+abbrev pub TellsGathering : Outcome Value → (Value → Cursor → Run meaning.Flow) → Result Gathering Stop → Cursor → State → Type 0
+TellsGathering outcome turns (Ok begun) at new = outcome ≡ left_of_gathering turns begun at (seen new)
+TellsGathering outcome turns (Err e) at new = e ≢ stop.Memory → outcome ≡ Stops (why_of e) (seen new)

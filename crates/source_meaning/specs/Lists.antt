@@ -15,10 +15,10 @@ use Rattle.source_trees.specs.declared.statement.LoopNames.{LoopNames}
 use Rattle.source_meaning.specs.Bodies.{yields, loop_names}
 use Rattle.source_meaning.specs.Objects.{operate, truth, allocate, item_at, slice, field}
 use Rattle.source_meaning.specs.Operations.{binary, unary_made, compared_made, builtin}
-use Rattle.source_meaning.specs.Program.{Builtin, ToList, Range, Callee, Defined, Constructor, Standard, Variable, Unknown, callee, with_locals}
+use Rattle.source_meaning.specs.Program.{Known, Builtin, ToList, Range, Callee, Defined, Constructor, Standard, Variable, Unknown, callee, with_locals}
 use Rattle.source_meaning.specs.Calls.{call, construct}
 use Rattle.source_meaning.specs.Loops.{Iterable, Generated}
-use Rattle.source_meaning.specs.Expressions.{expr, exprs, condition, iterable, call_method, if_holds, gathered, comprehended, not_set, range_of, items_of}
+use Rattle.source_meaning.specs.Expressions.{expr, exprs, condition, iterable, iterable_method, call_method, if_holds, gathered, comprehended, not_set, range_of, items_of}
 use Rattle.source_meaning.specs.Meaning.{condition_of}
 use Rattle.source_meaning.specs.Objects.{if_set}
 use Rattle.source_meaning.specs.State.{Spelling}
@@ -105,9 +105,15 @@ module _ (here : Setting) (scope : Scope) where
   standard_goes Range parts = exprs here scope parts >>= range_of
   standard_goes which parts = items_of (standard which parts)
 
+  abbrev pub function_goes : Known → List Expr → Run Iterable
+  function_goes known parts =
+      if yields known.function.body then (exprs here scope parts >>= λ vs. pure (Generated known vs)) else items_of (exprs here scope parts >>= call here known)
+
+  abbrev pub method_goes : Expr → Spelling → List Expr → Run Iterable
+  method_goes object name parts = expr here scope object >>= λ v. exprs here scope parts >>= iterable_method here v name
+
   abbrev pub called_goes_by : Callee → Spelling → List Expr → Run Iterable
-  called_goes_by (Defined known) name parts =
-      if yields known.function.body then (exprs here scope parts >>= λ vs. pure (Generated known vs)) else items_of (called_by (Defined known) name parts)
+  called_goes_by (Defined known) name parts = function_goes known parts
   called_goes_by (Standard which) name parts = standard_goes which parts
   called_goes_by other name parts = items_of (called_by other name parts)
 

@@ -2,18 +2,23 @@
 
 ghost use Rattle.std.specs.Prelude.{[]};
 ghost use Rattle.codon_base.specs.declared.value.Value.TheVariants as value;
-ghost use Rattle.source_meaning.specs.Outcome.{pure};
+ghost use Rattle.std.specs.Prelude.{◌≡◌};
+ghost use Rattle.source_meaning.specs.Bodies.{loop_names};
+ghost use Rattle.source_meaning.specs.Calls as calls;
+ghost use Rattle.source_meaning.specs.Entered.{TellsGathering};
+ghost use Rattle.source_meaning.specs.Outcome.{pure, bind, wrong};
 ghost use Rattle.source_meaning.specs.Expressions as spec;
 ghost use Rattle.source_meaning.specs.Lists as lists;
 ghost use Rattle.source_meaning.specs.Lists.{some_true, all_true, bound, chained, compares, called, standard, standard_goes, called_iterable, comprehended_of};
 ghost use Rattle.source_meaning.specs.Callees.{builtin_of};
 ghost use Rattle.source_meaning.specs.Meaning.{condition_of, turn_of};
-ghost use Rattle.source_meaning.specs.Program.{ToList};
+ghost use Rattle.source_meaning.specs.Program.{with_locals};
 ghost use Rattle.source_meaning.specs.Scopes.{scope_of};
 ghost use Rattle.source_meaning.specs.Seen.{seen, Tells, TellsAt, TellsBy, TellsFlow};
 ghost use Rattle.source_meaning.specs.Steps.{iterable_of, looped, turns_from};
 ghost use Rattle.source_meaning.specs.Task.{Comprehension};
-ghost use Rattle.source_meaning.specs.Tasks.{Nests, here};
+ghost use Rattle.source_meaning.specs.Tasks.{Nests, here, known_of, program_of};
+ghost use Rattle.source_meaning.specs.Variables.{read_name};
 
 use crate::callee::{Builtin, Callee, Numbered, resolve};
 use crate::entering::step;
@@ -177,28 +182,33 @@ impl<'m, F: Fn(Global, &Prepared<'_>, u64, u32, &mut State, &[Consumer<'_>], Tas
         let inner = Scope { inner: &all, locals: scope.locals, fixed: scope.fixed, in_prelude: scope.in_prelude };
         let mut cursor = Cursor::Ended;
         let begun = self.begin_gathering(state, scope, &inner, iterable, names, item, condition, &mut cursor)?;
+        if begun.is_whole {
+            let _ = swap_names(state, begun.own);
+            return Ok(begun.list);
+        }
         let mut left = left(state, self.limit);
-        'turns: while !begun.is_whole {
+        'turns: loop {
             if !step(self.alloc, state, self.limit, &inner, names, &mut cursor)? {
-                break 'turns;
+                let _ = swap_names(state, begun.own);
+                return Ok(begun.list);
             }
             if self.kept(state, &inner, condition)? {
                 let v = self.expr(state, &inner, item.get())?;
-                let _ = self.append_to(state, &begun.list, v)?;
+                self.append_value(state, &begun.list, v)?;
             }
             if left == 0 {
                 return Err(Stop::OutOfFuel);
             }
             left -= 1;
         }
-        let _ = swap_names(state, begun.own);
-        Ok(begun.list)
     }
 
     /// The beginning of a comprehension: what it goes over, its list, and the names before it.
     #[cycle(expression)]
     fn begin_gathering(&self, state: &mut State, scope: &Scope<'_>, inner: &Scope<'_>, iterable: &Expr, names: &LoopNames, item: &Boxed<Expr>, condition: &Option<Boxed<Expr>>, cursor: &mut Cursor) -> Result<Gathering, Stop>
-        requires { Nests self.now.program.now self.now.limit self.now.depth (F.pre self.now.low) (F.post self.now.low) }
+        requires nests { Nests self.now.program.now self.now.limit self.now.depth (F.pre self.now.low) (F.post self.now.low) }
+        requires inside { scope_of inner.now ≡ with_locals (loop_names names.now) (scope_of scope.now) }
+        ensures { TellsGathering (lists.comprehension (here self.now.program.now self.now.limit self.now.depth) (scope_of scope.now) names.now iterable.now condition.now item.now (seen state.old)) (λ list. turns_from (here self.now.program.now self.now.limit self.now.depth) (turn_of (here self.now.program.now self.now.limit self.now.depth) [] (Comprehension (scope_of inner.now) names.now condition.now item.now list))) result cursor.new state.new }
     {
         let goes_over = self.iterable(state, scope, iterable)?;
         let list = allocate(state, Object::List(Items::new(self.alloc)))?;
@@ -423,6 +433,7 @@ impl<'m, F: Fn(Global, &Prepared<'_>, u64, u32, &mut State, &[Consumer<'_>], Tas
     #[cycle(expression)]
     fn method_iterable(&self, state: &mut State, scope: &Scope<'_>, object: &Expr, name: &Spelling, parts: &[Expr]) -> Result<Iterable<'m>, Stop>
         requires { Nests self.now.program.now self.now.limit self.now.depth (F.pre self.now.low) (F.post self.now.low) }
+        ensures { TellsBy iterable_of (lists.method_goes (here self.now.program.now self.now.limit self.now.depth) (scope_of scope.now) object.now name.now parts.now (seen state.old)) result state.new }
     {
         let v = self.expr(state, scope, object)?;
         let given = self.exprs(state, scope, parts)?;
@@ -433,6 +444,7 @@ impl<'m, F: Fn(Global, &Prepared<'_>, u64, u32, &mut State, &[Consumer<'_>], Tas
     #[cycle(expression)]
     fn items_of(&self, state: &mut State, scope: &Scope<'_>, e: &Expr) -> Result<Iterable<'m>, Stop>
         requires { Nests self.now.program.now self.now.limit self.now.depth (F.pre self.now.low) (F.post self.now.low) }
+        ensures { TellsBy iterable_of (spec.items_of (spec.expr (here self.now.program.now self.now.limit self.now.depth) (scope_of scope.now) e.now) (seen state.old)) result state.new }
     {
         let v = self.expr(state, scope, e)?;
         Ok(Iterable::Items(v))
@@ -457,6 +469,7 @@ impl<'m, F: Fn(Global, &Prepared<'_>, u64, u32, &mut State, &[Consumer<'_>], Tas
     #[cycle(expression)]
     fn function_iterable(&self, state: &mut State, scope: &Scope<'_>, called: Called<'m>, parts: &[Expr]) -> Result<Iterable<'m>, Stop>
         requires { Nests self.now.program.now self.now.limit self.now.depth (F.pre self.now.low) (F.post self.now.low) }
+        ensures { TellsBy iterable_of (lists.function_goes (here self.now.program.now self.now.limit self.now.depth) (scope_of scope.now) (known_of called.entry) parts.now (seen state.old)) result state.new }
     {
         if called.known.yields {
             let given = self.exprs(state, scope, parts)?;
@@ -470,6 +483,7 @@ impl<'m, F: Fn(Global, &Prepared<'_>, u64, u32, &mut State, &[Consumer<'_>], Tas
     #[cycle(expression)]
     fn class_iterable(&self, state: &mut State, scope: &Scope<'_>, c: Numbered<'_>, parts: &[Expr]) -> Result<Iterable<'m>, Stop>
         requires { Nests self.now.program.now self.now.limit self.now.depth (F.pre self.now.low) (F.post self.now.low) }
+        ensures { TellsBy iterable_of (spec.items_of (bind (spec.exprs (here self.now.program.now self.now.limit self.now.depth) (scope_of scope.now) parts.now) (calls.construct (here self.now.program.now self.now.limit self.now.depth) c.entry.number c.entry.class.now.class.now)) (seen state.old)) result state.new }
     {
         let v = self.called_class(state, scope, c, parts)?;
         Ok(Iterable::Items(v))
@@ -493,6 +507,7 @@ impl<'m, F: Fn(Global, &Prepared<'_>, u64, u32, &mut State, &[Consumer<'_>], Tas
     #[cycle(expression)]
     fn standard_items(&self, state: &mut State, scope: &Scope<'_>, which: Builtin, parts: &[Expr]) -> Result<Iterable<'m>, Stop>
         requires { Nests self.now.program.now self.now.limit self.now.depth (F.pre self.now.low) (F.post self.now.low) }
+        ensures { TellsBy iterable_of (spec.items_of (standard (here self.now.program.now self.now.limit self.now.depth) (scope_of scope.now) (builtin_of which) parts.now) (seen state.old)) result state.new }
     {
         let v = self.standard(state, scope, which, parts)?;
         Ok(Iterable::Items(v))

@@ -139,6 +139,15 @@ impl<'m, F: Fn(Global, &Prepared<'_>, u64, u32, &mut State, &[Consumer<'_>], Tas
         Ok(Iterable::Items(items))
     }
 
+    /// Puts a value at the end of a list.
+    pub(crate) fn append_value(&self, state: &mut State, list: &Value, v: Value) -> Result<(), Stop>
+        ensures { Tells (bind (ref_in (out-Value list.now)) (λ at. append at v) (seen state.old)) result state.new }
+    {
+        let at = ref_in(self.alloc, state, list)?;
+        append(self.alloc, state, at, v)?;
+        Ok(())
+    }
+
     /// Puts an item at the end of a list that is gathered.
     pub(crate) fn append_to(&self, state: &mut State, list: &Value, v: Value) -> Result<Flow, Stop>
         ensures { TellsFlow (spec.append_to (here self.now.program.now self.now.limit self.now.depth) list.now v (seen state.old)) result state.new }
