@@ -45,3 +45,4 @@ pub mod Constructed
 pub mod Apart
 pub mod Ahead
 pub mod Stepped
+pub mod Passing

@@ -1,16 +1,21 @@
 -- How a loop begins and makes its turns in place, one after another: what is left of it where it has begun, and the step that gives the item of a turn to the loop's names.
-use Rattle.std.specs.Prelude.{◌≡◌, ◌≢◌, ℕ, Bool, true, false, if◌then◌else◌, Option, Some, None, Result, Ok, Err}
+use Rattle.std.specs.Prelude.{◌≡◌, ◌≢◌, ℕ, Bool, true, false, if◌then◌else◌, List, Option, Some, None, Result, Ok, Err}
 use Rattle.codon_base.specs.declared.value.Value.{Value}
 use Rattle.source_trees.specs.declared.statement.LoopNames.{LoopNames}
+use Rattle.source_trees.specs.declared.statement.Stmt.{Stmt}
 use Rattle.source_meaning.specs.State as meaning
 use Rattle.source_meaning.specs.Outcome.{Outcome, Gives, Stops, Run, ◌>>=◌, pure, and_then}
 use Rattle.source_meaning.specs.Frames.{with_names}
 use Rattle.source_meaning.specs.Program.{Scope}
-use Rattle.source_meaning.specs.Task.{Rules}
+use Rattle.source_meaning.specs.Task.{Rules, Consumer, Parallel}
+use Rattle.source_meaning.specs.Loops.{after_loop}
+use Rattle.source_meaning.specs.Inside.{finishing}
+use Rattle.source_meaning.specs.Tasks.{region_of}
 use Rattle.source_meaning.specs.Variables.{set_loop_names}
 use Rattle.source_meaning.specs.Cursors.{next_by}
 use Rattle.source_meaning.specs.Seen.{seen, names_of, flow_of, why_of}
 use Rattle.source_meaning.specs.declared.expressions.Gathering.{Gathering}
+use Rattle.source_meaning.specs.declared.regions.Opened.{Opened}
 use Rattle.source_meaning.specs.declared.flow.Flow.{Flow}
 use Rattle.source_meaning.specs.declared.iterable.Cursor.{Cursor}
 use Rattle.source_meaning.specs.declared.state.State.{State}
@@ -52,3 +57,23 @@ left_of_gathering turns begun at s =
 abbrev pub TellsGathering : Outcome Value → (Value → Cursor → Run meaning.Flow) → Result Gathering Stop → Cursor → State → Type 0
 TellsGathering outcome turns (Ok begun) at new = outcome ≡ left_of_gathering turns begun at (seen new)
 TellsGathering outcome turns (Err e) at new = e ≢ stop.Memory → outcome ≡ Stops (why_of e) (seen new)
+
+-- ---- parallel loops
+
+-- the end of a region that was left so, and of its loop
+abbrev pub region_ends : Bool → ℕ → meaning.Flow → Run meaning.Flow
+region_ends outside reached flow = finishing outside reached flow >>= λ _. pure (after_loop flow)
+
+-- what is left of a parallel loop that has begun
+abbrev pub left_of_region : (Opened → Cursor → Run meaning.Flow) → Opened → Cursor → Run meaning.Flow
+left_of_region turns opened at s =
+    if opened.in_place then and_then (turns opened at s) (region_ends opened.begun.outside opened.begun.reached)
+    else region_ends opened.begun.outside opened.begun.reached (flow_of opened.flow) s
+
+abbrev pub TellsOpened : Outcome meaning.Flow → (Opened → Cursor → Run meaning.Flow) → Result Opened Stop → Cursor → State → Type 0
+TellsOpened outcome turns (Ok opened) at new = outcome ≡ left_of_region turns opened at (seen new)
+TellsOpened outcome turns (Err e) at new = e ≢ stop.Memory → outcome ≡ Stops (why_of e) (seen new)
+
+-- what takes the items of a parallel loop that has begun
+abbrev pub opened_consumer : Scope → LoopNames → List Stmt → Opened → Consumer
+opened_consumer scope names body opened = Parallel (region_of opened.region) (record scope { fixed = opened.fixed }) names body

@@ -39,3 +39,4 @@ pub mod Stages
 pub mod Regions
 pub mod Plain
 pub mod Entered
+pub mod Passed

@@ -1,15 +1,16 @@
 #![tactic(auto, unfolding(crate::specs::Outcome::bind, crate::specs::Outcome::pure, crate::specs::Outcome::stop))]
 
-ghost use Rattle.std.specs.Prelude.{drop};
+ghost use Rattle.std.specs.Prelude.{drop, []};
 ghost use Rattle.source_meaning.specs.Pipelines as spec;
 ghost use Rattle.source_meaning.specs.Callees.{builtin_of};
 ghost use Rattle.source_meaning.specs.Expressions.{call_builtin};
 ghost use Rattle.source_meaning.specs.Meaning.{turn_of};
 ghost use Rattle.source_meaning.specs.Program.{callee, ToList};
 ghost use Rattle.source_meaning.specs.Scopes.{scope_of};
-ghost use Rattle.source_meaning.specs.Seen.{seen, Tells, TellsFlow};
+ghost use Rattle.source_meaning.specs.Passed.{passed_of};
+ghost use Rattle.source_meaning.specs.Seen.{seen, Tells, TellsBy, TellsFlow};
 ghost use Rattle.source_meaning.specs.Regions.{headed_inside, staged_apart, staged_inside};
-ghost use Rattle.source_meaning.specs.Stages.{staged, staged_ahead, stage_called, stage_loop};
+ghost use Rattle.source_meaning.specs.Stages.{staged, staged_ahead, stage_loop, whole_loop, given_to, called_stage, printed_stage, passed, reached_stage};
 ghost use Rattle.source_meaning.specs.Steps.{iterable_of, looped, turns_from};
 ghost use Rattle.source_meaning.specs.Task.{Stages};
 ghost use Rattle.source_meaning.specs.Tasks.{Nests, here, consumers_of, region_at, region_of, program_of};
@@ -87,6 +88,7 @@ impl<'m, F: Fn(Global, &Prepared<'_>, u64, u32, &mut State, &[Consumer<'_>], Tas
     /// A loop over the head, with the stages after the first that take its items.
     fn head_loop(&self, state: &mut State, consumers: &[Consumer<'_>], scope: &Scope<'_>, goes_over: Iterable<'m>, region: Option<&Region>, stages: &Items<Stage>) -> Result<Flow, Stop>
         requires { Nests self.now.program.now self.now.limit self.now.depth (F.pre self.now.low) (F.post self.now.low) }
+        ensures { TellsFlow (stage_loop (here self.now.program.now self.now.limit self.now.depth) (consumers_of consumers.now) (scope_of scope.now) (iterable_of goes_over.entry) (region_at region.entry) (drop 1 stages.now) (seen state.old)) result state.new }
     {
         let flow = self.looped_stages(state, consumers, scope, goes_over, region, stages, 1)?;
         Ok(after_loop(flow))
@@ -120,6 +122,7 @@ impl<'m, F: Fn(Global, &Prepared<'_>, u64, u32, &mut State, &[Consumer<'_>], Tas
     #[cycle(pipeline)]
     fn joined(&self, state: &mut State, consumers: &[Consumer<'_>], scope: &Scope<'_>, region: Option<&Region>, stage: &Stage, stages: &Items<Stage>, from: usize, v: Value) -> Result<Flow, Stop>
         requires { Nests self.now.program.now self.now.limit self.now.depth (F.pre self.now.low) (F.post self.now.low) }
+        ensures { TellsFlow (reached_stage (here self.now.program.now self.now.limit self.now.depth) (consumers_of consumers.now) (scope_of scope.now) stage.now.form (region_at region.entry) (drop from stages.now) v (seen state.old)) result state.new }
     {
         let Some(region) = region else {
             return Err(wrong(self.alloc));
@@ -184,6 +187,7 @@ impl<'m, F: Fn(Global, &Prepared<'_>, u64, u32, &mut State, &[Consumer<'_>], Tas
     #[cycle(pipeline)]
     fn pass(&self, state: &mut State, consumers: &[Consumer<'_>], scope: &Scope<'_>, form: &StageForm, region: Option<&Region>, stages: &Items<Stage>, from: usize, v: Value) -> Result<Passed, Stop>
         requires { Nests self.now.program.now self.now.limit self.now.depth (F.pre self.now.low) (F.post self.now.low) }
+        ensures { TellsBy passed_of (passed (here self.now.program.now self.now.limit self.now.depth) (consumers_of consumers.now) (scope_of scope.now) form.now (region_at region.entry) (drop from stages.now) v (seen state.old)) result state.new }
     {
         match form {
             StageForm::Iter => self.stage_loop(state, consumers, scope, Iterable::Items(v), region, stages, from),
@@ -198,6 +202,7 @@ impl<'m, F: Fn(Global, &Prepared<'_>, u64, u32, &mut State, &[Consumer<'_>], Tas
     /// The arguments of a stage, with the piped value among them.
     fn given_to(&self, state: &mut State, scope: &Scope<'_>, before: &[Expr], v: Value, behind: &[Expr]) -> Result<Values, Stop>
         requires { Nests self.now.program.now self.now.limit self.now.depth (F.pre self.now.low) (F.post self.now.low) }
+        ensures { Tells (given_to (here self.now.program.now self.now.limit self.now.depth) [] (scope_of scope.now) before.now v behind.now (seen state.old)) result state.new }
     {
         let mut given = self.exprs(state, scope, before)?;
         let more = self.exprs(state, scope, behind)?;
@@ -208,6 +213,7 @@ impl<'m, F: Fn(Global, &Prepared<'_>, u64, u32, &mut State, &[Consumer<'_>], Tas
 
     fn print_stage(&self, state: &mut State, scope: &Scope<'_>, printed: &Printed, v: Value) -> Result<Passed, Stop>
         requires { Nests self.now.program.now self.now.limit self.now.depth (F.pre self.now.low) (F.post self.now.low) }
+        ensures { TellsBy passed_of (printed_stage (here self.now.program.now self.now.limit self.now.depth) [] (scope_of scope.now) printed.now v (seen state.old)) result state.new }
     {
         let mut piped = Items::new(self.alloc);
         piped.push(v)?;
@@ -219,6 +225,7 @@ impl<'m, F: Fn(Global, &Prepared<'_>, u64, u32, &mut State, &[Consumer<'_>], Tas
     #[cycle(pipeline)]
     fn call_stage(&self, state: &mut State, consumers: &[Consumer<'_>], scope: &Scope<'_>, name: &Spelling, given: Values, region: Option<&Region>, stages: &Items<Stage>, from: usize) -> Result<Passed, Stop>
         requires { Nests self.now.program.now self.now.limit self.now.depth (F.pre self.now.low) (F.post self.now.low) }
+        ensures { TellsBy passed_of (called_stage (here self.now.program.now self.now.limit self.now.depth) (consumers_of consumers.now) (scope_of scope.now) (callee (program_of self.now.program.now) (scope_of scope.now) name.now) name.now given (region_at region.entry) (drop from stages.now) (seen state.old)) result state.new }
     {
         match resolve(self.program, scope, name) {
             Callee::Defined(called) => {
@@ -271,6 +278,7 @@ impl<'m, F: Fn(Global, &Prepared<'_>, u64, u32, &mut State, &[Consumer<'_>], Tas
     #[cycle(pipeline)]
     fn stage_loop(&self, state: &mut State, consumers: &[Consumer<'_>], scope: &Scope<'_>, goes_over: Iterable<'m>, region: Option<&Region>, stages: &Items<Stage>, from: usize) -> Result<Passed, Stop>
         requires { Nests self.now.program.now self.now.limit self.now.depth (F.pre self.now.low) (F.post self.now.low) }
+        ensures { TellsBy passed_of (whole_loop (here self.now.program.now self.now.limit self.now.depth) (consumers_of consumers.now) (scope_of scope.now) (iterable_of goes_over.entry) (region_at region.entry) (drop from stages.now) (seen state.old)) result state.new }
     {
         let flow = self.looped_stages(state, consumers, scope, goes_over, region, stages, from)?;
         Ok(Passed::Left(after_loop(flow)))

@@ -7,7 +7,8 @@ ghost use Rattle.source_meaning.specs.Meaning.{turn_of};
 ghost use Rattle.source_meaning.specs.Scopes.{scope_of};
 ghost use Rattle.source_meaning.specs.Seen.{seen, TellsFlow};
 ghost use Rattle.source_meaning.specs.Statements as statements;
-ghost use Rattle.source_meaning.specs.Steps.{iterable_of, parallel_of, parallel_by};
+ghost use Rattle.source_meaning.specs.Entered.{TellsOpened, opened_consumer};
+ghost use Rattle.source_meaning.specs.Steps.{parallel_of, turns_from};
 ghost use Rattle.source_meaning.specs.Task.{Parallel};
 ghost use Rattle.source_meaning.specs.Tasks.{Nests, here, consumers_of, program_of, region_of};
 
@@ -92,6 +93,7 @@ impl<'m, F: Fn(Global, &Prepared<'_>, u64, u32, &mut State, &[Consumer<'_>], Tas
     /// The beginning of a `@par` loop with its region. Where a generator gives the items, all turns are made.
     fn open_region(&self, state: &mut State, consumers: &[Consumer<'_>], scope: &Scope<'_>, l: &For, cursor: &mut Cursor) -> Result<Opened, Stop>
         requires { Nests self.now.program.now self.now.limit self.now.depth (F.pre self.now.low) (F.post self.now.low) }
+        ensures { TellsOpened (parallel_of (here self.now.program.now self.now.limit self.now.depth) (consumers_of consumers.now) (scope_of scope.now) l.now (seen state.old)) (λ opened. turns_from (here self.now.program.now self.now.limit self.now.depth) (turn_of (here self.now.program.now self.now.limit self.now.depth) (consumers_of consumers.now) (opened_consumer (scope_of scope.now) l.now.names l.now.body opened))) result cursor.new state.new }
     {
         let goes_over = self.iterable(state, scope, &l.iterable)?;
         let over_range = goes_over_range(self.program, scope, &l.iterable);
