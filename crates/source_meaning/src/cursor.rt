@@ -59,10 +59,7 @@ fn item_next(
         return Ok(None);
     };
     tick(state, limit)?;
-    let Some(next) = place.checked_add(1) else {
-        return Err(Stop::Memory);
-    };
-    Ok(Some((v, Cursor::Item(container, next))))
+    Ok(Some((v, Cursor::Item(container, place + 1))))
 }
 
 /// The item of a turn, for which a tick is taken, and what comes after it, or the end.

@@ -1,6 +1,6 @@
 #![tactic(auto, unfolding(crate::specs::Outcome::bind, crate::specs::Outcome::pure, crate::specs::Outcome::stop))]
 
-ghost use Rattle.std.specs.Prelude.{◌≡◌, ◌<◌, IfOk, IfSome, Some, codes};
+ghost use Rattle.std.specs.Prelude.{◌≡◌, ◌<◌, ◌^◌, IfOk, IfSome, OnSome, Some, codes};
 ghost use Rattle.codon_base.specs.declared.fault.FaultKind.TheVariants as kind;
 ghost use Rattle.codon_base.specs.declared.object.Object.TheVariants.{List as Listed};
 ghost use Rattle.codon_base.specs.declared.value.Value.{Value-F, out-Value};
@@ -110,7 +110,8 @@ pub(crate) fn found_in_list(
     at: Ref,
     place: u64,
 ) -> Result<Option<Value>, Stop>
-    ensures { Tells (spec.found_by in_place place (Value-F.Ref at) (seen state.now)) result state.now }
+    ensures found { Tells (spec.found_by in_place place (Value-F.Ref at) (seen state.now)) result state.now }
+    ensures within { IfOk result (λ found. OnSome found (place < 2 ^ 63)) }
 {
     let items = list_at(alloc, state, at)?;
     if place >= items.len() as u64 {

@@ -1,5 +1,6 @@
 #![tactic(auto, unfolding(crate::specs::Outcome::bind, crate::specs::Outcome::pure, crate::specs::Outcome::stop))]
 
+ghost use Rattle.std.specs.Prelude.{◌<◌, ◌^◌, IfOk, OnSome};
 ghost use Rattle.codon_base.specs.declared.value.Value.{Value-F, out-Value};
 ghost use Rattle.source_meaning.specs.Objects as spec;
 ghost use Rattle.source_meaning.specs.Iterations.{in_place};
@@ -16,7 +17,7 @@ use crate::lists::{
 use crate::prepared::Prepared;
 use crate::state::{State, Stop};
 use crate::variables::wrong;
-use codon_base::{Object, Ref, Spelling, Text, Value, Values};
+use codon_base::{Object, Ref, Spelling, Text, Value};
 use std::alloc::Global;
 use value_operators::{Made, place_of};
 
@@ -110,7 +111,8 @@ pub(crate) fn found_at(
     container: &Value,
     place: u64,
 ) -> Result<Option<Value>, Stop>
-    ensures { Tells (spec.found_at in_place container.now place (seen state.now)) result state.now }
+    ensures found { Tells (spec.found_at in_place container.now place (seen state.now)) result state.now }
+    ensures within { IfOk result (λ found. OnSome found (place < 2 ^ 63)) }
 {
     match container {
         Value::Ref(at) => found_in_list(alloc, state, *at, place),
@@ -126,9 +128,10 @@ fn found_in_text(
     text: &Text,
     place: u64,
 ) -> Result<Option<Value>, Stop>
-    ensures { Tells (spec.found_by in_place place (Value-F.Text text.now) (seen state.now)) result state.now }
+    ensures found { Tells (spec.found_by in_place place (Value-F.Text text.now) (seen state.now)) result state.now }
+    ensures within { IfOk result (λ found. OnSome found (place < 2 ^ 63)) }
 {
-    if place >= text.len() as u64 {
+    if place >= text.as_bytes().len() as u64 {
         return Ok(None);
     }
     let place = place as usize;

@@ -21,7 +21,6 @@ use crate::task::{Consumer, Task};
 use crate::variables::wrong;
 use codon_base::{Bytes, Memory, Text, Value, Values};
 use source_trees::{PrintOptions, Printed};
-use sqlite_items::Items;
 use std::alloc::Global;
 
 /// What stands between printed values, and after them.
