@@ -140,7 +140,6 @@ impl<'m, F: Fn(Global, &Prepared<'_>, u64, u32, &mut State, &[Consumer<'_>], Tas
     }
 
     /// A turn of a loop.
-    #[cycle(statement)]
     pub(crate) fn body_turn(&self, state: &mut State, consumers: &[Consumer<'_>], scope: &Scope<'_>, names: &LoopNames, body: &Items<Stmt>, v: Value) -> Result<Flow, Stop>
         requires { Nests self.now.program.now self.now.limit self.now.depth (F.pre self.now.low) (F.post self.now.low) }
         ensures { TellsFlow (turn_of (here self.now.program.now self.now.limit self.now.depth) (consumers_of consumers.now) (Body (scope_of scope.now) names.now body.now) v (seen state.old)) result state.new }
