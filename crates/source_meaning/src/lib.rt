@@ -1,4 +1,4 @@
-//! What a source means, by definitions over its tree: what it prints, how it ends, and which regions it runs, on so much fuel. It promises the laws of these definitions, and knows nothing of types, machine code or threads. Beside them stand parts of the interpreter that computes this meaning: names, scopes, what a call names, flows, frames of names and the walks over bodies; the call that runs a whole module comes.
+//! What a source means, by definitions over its tree: what it prints, how it ends, and which regions it runs, on so much fuel; and an interpreter of trees that is proved to give this meaning, `run_plain`. It promises the laws of these definitions, and knows nothing of types, machine code or threads.
 #![tactic(auto)]
 
 mod arguments;
