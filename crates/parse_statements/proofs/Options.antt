@@ -234,8 +234,8 @@ item_law o ts =
       shrinks = λ a f k c w h l. tt;
     }) ts (take_by (setting_at o) ts) (take_limited (setting_at o) Any (λ f. tt) never ts) (λ f. expect is_equals >>= λ _. take_by f)
     (λ used f us k l e. let n = named_setting o k.0 f k.2 in let m = setting_some o n.0 f n.2 in
-        open_limited is_equals (λ _. Picks f) Any print_item_on (λ t h. (m.0 ∷ [], m.1, ((m.0, refl, m.2), tt))) us (λ _. take_by f)
-        (λ t vs h i. take_limited f Any (λ p. tt) print_item_on vs))
+    open_limited is_equals (λ _. Picks f) Any print_item_on (λ t h. (m.0 ∷ [], m.1, ((m.0, refl, m.2), tt))) us (λ _. take_by f)
+    (λ t vs h i. take_limited f Any (λ p. tt) print_item_on vs))
 
 -- ---- options with commas
 
@@ -269,7 +269,7 @@ unfolding reading.more_options
 more_law o ts =
     repeat_law goes_on Step (λ o. print_item_on) printed_on Any repeated (λ p. expect is_comma >>= λ _. reading.par_item p)
     (λ p f us h. open_limited is_comma (λ _. ParItem p) Any print_item_on (λ t i. let k = item_some p (goes_true (takes_option p) us h) in (k.0, k.1, (k.2, tt))) us (λ _. reading.par_item p)
-        (λ t vs i e. item_law p vs))
+    (λ t vs i e. item_law p vs))
     (length ts) o ts (omega arith) tt
 
 abbrev Row : ParOptions → Language Token ParOptions
@@ -338,8 +338,8 @@ par_options_law ts =
     (optional_law Written no_options Any tt is_bracket is_bracket (λ a w s k. ap (λ z. sees is_bracket (z ++ s)) k.2 ∙ k.3) (λ t h. h)
     (λ us. and_then (expect is_bracket us) (λ _. reading.par_item no_options >>= reading.more_options >>= λ o. expect is_bracket_end >> pure o)) ts
     (λ h. let k = item_some no_options refl in
-        open_limited is_bracket (λ _. Closes (IsParRow no_options) is_bracket_end (λ o. o)) Any is_bracket
-        (λ t i. (k.0 ++ op_token (codes ")") ∷ [], k.1, ((k.0, k.1, op_token (codes ")"), refl, g.last no_options k.0 k.1 (item_option no_options k.0 k.1 k.2), refl, refl), tt)))
-        ts (λ _. reading.par_item no_options >>= reading.more_options >>= λ o. expect is_bracket_end >> pure o)
-        (λ t us i e. close_limited is_bracket_end (op_token (codes ")")) refl (IsParRow no_options) printed_on is_bracket (λ u j. ap not j) (λ o. o) Any Any
-        (record { grows = λ o f. tt; shrinks = λ o f. tt }) us _ (row_law us))))
+    open_limited is_bracket (λ _. Closes (IsParRow no_options) is_bracket_end (λ o. o)) Any is_bracket
+    (λ t i. (k.0 ++ op_token (codes ")") ∷ [], k.1, ((k.0, k.1, op_token (codes ")"), refl, g.last no_options k.0 k.1 (item_option no_options k.0 k.1 k.2), refl, refl), tt)))
+    ts (λ _. reading.par_item no_options >>= reading.more_options >>= λ o. expect is_bracket_end >> pure o)
+    (λ t us i e. close_limited is_bracket_end (op_token (codes ")")) refl (IsParRow no_options) printed_on is_bracket (λ u j. ap not j) (λ o. o) Any Any
+    (record { grows = λ o f. tt; shrinks = λ o f. tt }) us _ (row_law us))))
