@@ -1,5 +1,5 @@
 -- Regions and their iterations, step by step as the interpreter takes them.
-use Rattle.std.proofs.Common.{◌≡◌, ◌<◌, ℕ, Bool, List, length, refl, sym, ap, ◌∙◌, arith}
+use Rattle.std.proofs.Common.{◌≡◌, ◌<◌, ℕ, Bool, List, length, Result, Ok, Err, OnOk, refl, sym, ap, ◌∙◌, subst, arith}
 use Rattle.codon_base.specs.declared.value.Value.{Value}
 use Rattle.source_trees.specs.declared.statement.LoopNames.{LoopNames}
 use Rattle.source_trees.specs.declared.statement.Stmt.{Stmt}
@@ -17,6 +17,11 @@ use Rattle.source_meaning.specs.Meaning.{turn_of}
 use Rattle.source_meaning.specs.Stages.{staged_ahead}
 use Rattle.source_meaning.specs.Regions.{staged_apart}
 use Rattle.source_meaning.specs.Tasks.{program_of, lower, here}
+use Rattle.source_meaning.specs.Seen.{seen, flow_of, why_of, TellsFlow}
+use Rattle.source_meaning.specs.Entered.{TellsTurned}
+use Rattle.source_meaning.specs.declared.flow.Flow as flows
+use Rattle.source_meaning.specs.declared.state.State as states
+use Rattle.source_meaning.specs.declared.state.Stop as stops
 use Rattle.source_meaning.specs.declared.prepared.Prepared.{Prepared}
 use Rattle.source_meaning.proofs.Iterating.{counting_steps, turn_steps, turn_levels, stage_steps, stage_levels}
 
@@ -81,6 +86,16 @@ module _ (region : Region) (v : Value) (body : Run Flow) (s : State) where
     unfolding bind
     item_stops_after t u w saved flow why e f g = runs t saved (Gives flow u) e f ∙ ap (λ p. and_then p (λ _. pure flow)) g
 
+-- an iteration ends as its turn was left
+pub turned_by : (region : Region) (v : Value) (body : Run Flow) (s t : State) (saved : Saved) → Steps region v body s → entering region v s ≡ Gives saved t
+    → (left result : Result flows.Flow stops.Stop) (mid new : states.State) → TellsFlow (body t) left mid → TellsTurned left region saved (seen mid) result new → TellsFlow (in_place.item region v body s) result new
+unfolding bind
+turned_by region v body s t saved steps e (Ok flow) result mid new f told =
+    subst (λ (o : Outcome Flow). TellsFlow o result new) (sym (runs region v body s steps t saved (Gives (flow_of flow) (seen mid)) e f)) told
+turned_by region v body s t saved steps e (Err why) result mid new f told =
+    subst (λ (r : Result flows.Flow stops.Stop). TellsFlow (in_place.item region v body s) r new) (sym told.0)
+    (λ n. item_stops region v body s steps t (seen mid) saved (why_of why) e (f n) ∙ ap (λ u. Stops (why_of why) u) (sym told.1))
+
 -- a level above the first stays one, where there are as many levels
 still_above : (s t : State) → length t.shared.levels ≡ length s.shared.levels → 1 < length s.shared.levels → 1 < length t.shared.levels
 still_above s t e h = omega (arith, e, h)
@@ -93,6 +108,11 @@ module _ (p : Prepared) (limit depth : ℕ) (consumers : List Consumer) where
   pub turn_above : (inner : Scope) (names : LoopNames) (body : List Stmt) (v : Value) (s t : State) (flow : Flow) → turn_of (here p limit depth) consumers (Body inner names body) v s ≡ Gives flow t → 1 < length s.shared.levels → 1 < length t.shared.levels
   unfolding lower
   turn_above inner names body v s t flow e h = still_above s t (turn_levels (program_of p) limit depth TooDeep consumers inner names body v s t flow e) h
+
+  pub turned_above : (inner : Scope) (names : LoopNames) (body : List Stmt) (v : Value) (s : State) (left : Result flows.Flow stops.Stop) (mid : states.State)
+      → TellsFlow (turn_of (here p limit depth) consumers (Body inner names body) v s) left mid → 1 < length s.shared.levels → OnOk left (1 < length (seen mid).shared.levels)
+  turned_above inner names body v s (Ok flow) mid f h = turn_above inner names body v s (seen mid) (flow_of flow) f h
+  turned_above inner names body v s (Err why) mid f h = tt
 
   pub stage_is : (region : Region) (scope : Scope) (stage : Stage) (more : List Stage) (v : Value) (s : State) → Steps region v (staged_ahead (here p limit depth) consumers scope stage.form more v) s
   unfolding lower

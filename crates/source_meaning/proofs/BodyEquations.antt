@@ -18,7 +18,8 @@ use Rattle.source_trees.specs.declared.statement.Stmt.TheVariants as stmt
 use Rattle.source_trees.specs.declared.statement.Arm.{Arm, out-Arm}
 use Rattle.source_trees.specs.declared.statement.For.{For, out-For}
 use Rattle.source_meaning.specs.State.{Spelling}
-use Rattle.source_meaning.specs.Bodies.{loop_names, target_names, targets_names, annotated_name, assigned_by, assigned_step, assigned_in_arm, assigned_in_loop, has_some, some_step, some_in_arm, some_in_loop}
+use Rattle.source_meaning.specs.Bodies.{annotated_name, assigned_by, assigned_step, assigned_in_arm, assigned_in_loop, has_some, some_step, some_in_arm, some_in_loop}
+use Rattle.source_trees.specs.Names.{loop_names, target_names, targets_names}
 use Rattle.source_meaning.specs.Walked.{assigned_arm, assigned_for, some_arm, some_for}
 
 pub flat_map_map : {X Y A : Type 0} (f : X → Y) (g : Y → List A) (xs : List X) → flat_map g (map f xs) ≡ flat_map (λ x. g (f x)) xs

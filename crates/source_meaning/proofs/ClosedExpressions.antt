@@ -11,7 +11,8 @@ use Rattle.source_trees.specs.declared.expression.Comparison.{Comparison, roll-C
 use Rattle.source_trees.specs.declared.statement.LoopNames.{LoopNames}
 use Rattle.source_meaning.specs.State.{Spelling, Flow}
 use Rattle.source_meaning.specs.Outcome.{Run, ◌>>=◌}
-use Rattle.source_meaning.specs.Bodies.{yields, loop_names}
+use Rattle.source_meaning.specs.Bodies.{yields}
+use Rattle.source_trees.specs.Names.{loop_names}
 use Rattle.source_meaning.specs.Program.{Program, Scope, Builtin, Length, Least, Greatest, ToText, ToInt, ToBool, Code, Character, ToList, Range, Known, Callee, Defined, Constructor, Standard, Variable, Unknown, callee, with_locals}
 use Rattle.source_meaning.specs.Task.{Consumer, Task, Rules, Setting}
 use Rattle.source_meaning.specs.Objects.{slice}

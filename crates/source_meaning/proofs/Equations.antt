@@ -16,7 +16,8 @@ use Rattle.std.specs.Prelude.{option_map}
 use Rattle.source_trees.specs.declared.expression.Expr.TheVariants as e
 use Rattle.source_meaning.specs.State.{Spelling, State}
 use Rattle.source_meaning.specs.Outcome.{Run, Gives, and_then, ◌>>=◌, pure, bind}
-use Rattle.source_meaning.specs.Bodies.{yields, loop_names}
+use Rattle.source_meaning.specs.Bodies.{yields}
+use Rattle.source_trees.specs.Names.{loop_names}
 use Rattle.source_meaning.specs.Objects.{operate, allocate, item_at, slice, field}
 use Rattle.source_meaning.specs.Variables.{read_name}
 use Rattle.source_meaning.specs.Program.{Scope, Known, Builtin, Length, Least, Greatest, ToText, ToInt, ToBool, Code, Character, ToList, Range, Callee, Defined, Constructor, Standard, Variable, Unknown, callee, with_locals}

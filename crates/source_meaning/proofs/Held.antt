@@ -11,7 +11,7 @@ use Rattle.source_meaning.specs.State.{Spelling, same, is_among, assigned_to}
 use Rattle.source_meaning.specs.declared.scope.Inner.{Inner}
 use Rattle.source_trees.specs.declared.statement.LoopNames.{LoopNames}
 use Rattle.source_trees.specs.declared.statement.LoopNames.TheVariants as names
-use Rattle.source_meaning.specs.Bodies.{loop_names}
+use Rattle.source_trees.specs.Names.{loop_names}
 use Rattle.source_meaning.specs.Scopes.{sets, has_local, scope_of}
 use Rattle.source_meaning.specs.declared.scope.Scope.{Scope}
 use Rattle.source_meaning.specs.Seen.{held_in}

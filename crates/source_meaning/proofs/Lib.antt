@@ -45,5 +45,6 @@ pub mod Constructed
 pub mod Apart
 pub mod Ahead
 pub mod Stepped
-pub mod Comprehensions
+pub mod Gathering
+pub mod LoopEnds
 pub mod Passing

@@ -23,7 +23,7 @@ use Rattle.source_trees.specs.declared.statement.Stmt.TheFolds.{fold-Arm, fold-F
 use Rattle.source_trees.specs.declared.statement.Stmt.TheVariants as stmt
 use Rattle.source_trees.specs.declared.statement.Arm.{Arm, out-Arm}
 use Rattle.source_trees.specs.declared.statement.For.{For, out-For}
-use Rattle.source_meaning.specs.Bodies.{loop_names}
+use Rattle.source_trees.specs.Names.{loop_names}
 use Rattle.source_meaning.specs.Mentions.{Note, Calls, CallsMethod, but_of, mention, mention_name, all_of, notes_of_expr, notes_of_exprs, notes_of_optional, notes_of_target, notes_of_targets, notes_of_loop_names, notes_of_printed, notes_of_stages, notes_of_stmt, notes_of_body, LoopNotes, expr_step, comparison_step, stmt_step, arm_step, for_step}
 use Rattle.source_meaning.specs.Noted.{notes_of_comparison, notes_of_arm, notes_of_for, notes_in_parallel}
 use Rattle.source_meaning.proofs.BodyEquations.{flat_map_map, flat_map_same}

@@ -47,6 +47,13 @@ module _ (rules : Rules) (limit : ℕ) (scope : Scope) (names : LoopNames) (body
   unfolding bind
   second n at b s t o e f = first n at s (Gives (Some b) t) e ∙ ap (λ (o : Outcome Flow). and_then o (λ flow. after_turn flow (all n b))) f
 
+  -- a turn by its step, and by its body
+  pub by_step : (n : ℕ) (at : Cursor) (s : State) → all (suc n) at s ≡ and_then (stepped scope names rules limit at s) (rest n)
+  by_step n at s = first n at s (stepped scope names rules limit at s) refl
+
+  pub by_body : (n : ℕ) (at b : Cursor) (s t : State) → stepped scope names rules limit at s ≡ Gives (Some b) t → all (suc n) at s ≡ and_then (body t) (λ flow. after_turn flow (all n b))
+  by_body n at b s t e = second n at b s t (body t) e refl
+
   pub step_end : (n : ℕ) (at : Cursor) (s t : State) → stepped scope names rules limit at s ≡ Gives None t → all (suc n) at s ≡ Gives Next t
   unfolding pure
   step_end n at s t e = first n at s (Gives None t) e

@@ -5,7 +5,7 @@ use Rattle.source_trees.specs.declared.node.Node.{Node}
 use Rattle.source_trees.specs.declared.expression.Expr.{Expr}
 use Rattle.source_trees.specs.declared.expression.Expr.TheVariants as e
 use Rattle.source_trees.specs.declared.statement.LoopNames.{LoopNames}
-use Rattle.source_meaning.specs.Bodies.{loop_names}
+use Rattle.source_trees.specs.Names.{loop_names}
 use Rattle.source_meaning.specs.Mentions.{Note, but_of, notes_of_expr, notes_of_optional}
 use Rattle.source_meaning.proofs.NoteEquations.{notes_Comprehension, notes_Slice}
 

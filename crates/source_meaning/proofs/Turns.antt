@@ -26,6 +26,13 @@ module _ {A : Type 0} (next : A → Run (Option (Value × A))) (turn : Value →
   unfolding bind
   second n a s t p o e f = first n a s (Gives (Some p) t) e ∙ ap (λ (o : Outcome Flow). and_then o (decides n p.1)) f
 
+  -- a turn by its item, and by what is done with it
+  pub by_next : (n : ℕ) (a : A) (s : State) → turns next turn (suc n) a s ≡ and_then (next a s) (goes n)
+  by_next n a s = first n a s (next a s) refl
+
+  pub by_turn : (n : ℕ) (a : A) (s t : State) (p : Value × A) → next a s ≡ Gives (Some p) t → turns next turn (suc n) a s ≡ and_then (turn p.0 t) (decides n p.1)
+  by_turn n a s t p e = second n a s t p (turn p.0 t) e refl
+
   pub turn_end : (n : ℕ) (a : A) (s t : State) → next a s ≡ Gives None t → turns next turn (suc n) a s ≡ Gives Next t
   unfolding pure
   turn_end n a s t e = first n a s (Gives None t) e

@@ -3,31 +3,13 @@ use Rattle.std.specs.Prelude.{Bool, true, false, ◌||◌, List, [], ◌∷◌, 
 use Rattle.std.specs.List.{flat_map, list_any}
 use Rattle.source_trees.specs.declared.expression.Expr.{Expr}
 use Rattle.source_trees.specs.declared.node.Name.{Name}
-use Rattle.source_trees.specs.declared.statement.LoopNames.{LoopNames}
-use Rattle.source_trees.specs.declared.statement.LoopNames.TheVariants as names
-use Rattle.source_trees.specs.declared.statement.Target.{Target}
-use Rattle.source_trees.specs.declared.statement.Target.TheVariants as target
-use Rattle.source_trees.specs.declared.statement.Targets.{Targets}
-use Rattle.source_trees.specs.declared.statement.Targets.TheVariants as targets
 use Rattle.source_trees.specs.declared.statement.Stmt.{Stmt, Stmt-F}
 use Rattle.source_trees.specs.declared.statement.Stmt.TheOpen.{Arm-F, For-F}
 use Rattle.source_trees.specs.declared.statement.Stmt.TheFolds.{fold-Stmt}
+use Rattle.source_trees.specs.Names.{loop_names, target_names, targets_names}
 use Rattle.source_meaning.specs.State.{Spelling}
 
 -- ---- names that are assigned
-
-abbrev pub loop_names : LoopNames → List Spelling
-loop_names (names.One name) = name.spelling ∷ []
-loop_names (names.Several all) = map (λ name. name.spelling) all
-
--- the name that a target assigns; one that writes a place or a field assigns no name
-abbrev pub target_names : Target → List Spelling
-target_names (target.Name n name) = name ∷ []
-target_names _ = []
-
-abbrev pub targets_names : Targets → List Spelling
-targets_names (targets.One only) = target_names only
-targets_names (targets.Several n all) = flat_map target_names all
 
 -- an annotation without a value assigns nothing
 abbrev pub annotated_name : Name → Option Expr → List Spelling

@@ -12,7 +12,8 @@ use Rattle.source_trees.specs.declared.statement.LoopNames.{LoopNames}
 use Rattle.source_trees.specs.declared.statement.Stmt.{Stmt}
 use Rattle.source_meaning.specs.State.{Spelling, same, is_among}
 use Rattle.source_meaning.specs.Outcome.{Run, ◌>>=◌, pure, look}
-use Rattle.source_meaning.specs.Bodies.{assigned, assigned_outside, loop_names}
+use Rattle.source_meaning.specs.Bodies.{assigned, assigned_outside}
+use Rattle.source_trees.specs.Names.{loop_names}
 use Rattle.source_meaning.specs.Mentions.{but_of, Note, Calls, CallsMethod, notes_of_body, mentioned, written_places}
 use Rattle.source_meaning.specs.Program.{Program, Scope, Callable, function_scope, is_variable, initializer_name}
 use Rattle.source_meaning.specs.Task.{Region}

@@ -13,7 +13,8 @@ use Rattle.source_trees.specs.declared.expression.Comparison.{Comparison}
 use Rattle.source_trees.specs.declared.statement.LoopNames.{LoopNames}
 use Rattle.source_meaning.specs.State.{Spelling, Flow, Next}
 use Rattle.source_meaning.specs.Outcome.{Run, ◌>>=◌, pure, fault, wrong, look, framed}
-use Rattle.source_meaning.specs.Bodies.{yields, loop_names}
+use Rattle.source_meaning.specs.Bodies.{yields}
+use Rattle.source_trees.specs.Names.{loop_names}
 use Rattle.source_meaning.specs.Objects.{operate, truth, allocate, ref_in, object, item_at, slice, append, field}
 use Rattle.source_meaning.specs.Variables.{read_name, set_loop_names}
 use Rattle.source_meaning.specs.Program.{Scope, Builtin, ToList, Range, Known, Callee, Defined, Constructor, Standard, Variable, Unknown, callee, with_locals}

@@ -33,8 +33,9 @@ IsSlice whole part from to = (n : Node) × (whole ≡ e.Slice n part from to)
 abbrev pub Comprehends : Expr → LoopNames → Expr → Option Expr → Expr → Type 0
 Comprehends whole names goes kept item = (n : Node) × (whole ≡ e.Comprehension n item names goes kept)
 
-abbrev pub IsComprehension : Expr → LoopNames → Option Expr → Expr → Type 0
-IsComprehension whole names kept item = (n : Node) × (goes : Expr) × (whole ≡ e.Comprehension n item names goes kept)
+-- what a turn of a comprehension evaluates
+abbrev pub Gathers : Expr → Option Expr → Expr → Type 0
+Gathers whole kept item = (n : Node) × (names : LoopNames) × (goes : Expr) × (whole ≡ e.Comprehension n item names goes kept)
 
 abbrev pub IsNoCall : Expr → Type 0
 IsNoCall whole = ((n : Node) (name : Name) (parts : List Expr) → whole ≢ e.Call n name parts) × ((n m : Node) (object : Expr) (name : Spelling) (parts : List Expr) → whole ≢ e.MethodCall n m object name parts)

@@ -41,3 +41,4 @@ pub mod Plain
 pub mod Entered
 pub mod Forms
 pub mod Passed
+pub mod Gathered

@@ -1,5 +1,5 @@
 -- What the interpreter's loops over expressions compute.
-use Rattle.std.specs.Prelude.{true, false, not, if◌then◌else◌, List, [], ◌∷◌, codes}
+use Rattle.std.specs.Prelude.{ℕ, true, false, not, if◌then◌else◌, List, [], ◌∷◌, codes}
 use Rattle.codon_base.specs.declared.value.Value.{Value, out-Value}
 use Rattle.codon_base.specs.declared.value.Value.TheVariants as value
 use Rattle.codon_base.specs.declared.object.Object.TheVariants.{List as Listed}
@@ -8,14 +8,17 @@ use Rattle.source_trees.specs.declared.operator.BinaryOp.{BinaryOp}
 use Rattle.source_trees.specs.declared.expression.Expr.{Expr}
 use Rattle.source_meaning.specs.Outcome.{Run, ◌>>=◌, pure, wrong}
 use Rattle.source_meaning.specs.Program.{Scope}
-use Rattle.source_meaning.specs.Task.{Setting}
+use Rattle.source_meaning.specs.Task.{Rules, Setting}
 use Rattle.std.specs.Prelude.{Option, Some, None}
 use Rattle.source_trees.specs.declared.expression.Comparison.{Comparison}
+use Rattle.source_trees.specs.declared.operator.Comparator.{Comparator}
 use Rattle.source_trees.specs.declared.statement.LoopNames.{LoopNames}
-use Rattle.source_meaning.specs.Bodies.{yields, loop_names}
+use Rattle.source_trees.specs.declared.item.Class.{Class}
+use Rattle.source_meaning.specs.Bodies.{yields}
+use Rattle.source_trees.specs.Names.{loop_names}
 use Rattle.source_meaning.specs.Objects.{operate, truth, allocate, item_at, slice, field}
 use Rattle.source_meaning.specs.Operations.{binary, unary_made, compared_made, builtin}
-use Rattle.source_meaning.specs.Program.{Builtin, ToList, Range, Callee, Defined, Constructor, Standard, Variable, Unknown, callee, with_locals}
+use Rattle.source_meaning.specs.Program.{Known, Builtin, ToList, Range, Callee, Defined, Constructor, Standard, Variable, Unknown, callee, with_locals}
 use Rattle.source_meaning.specs.Calls.{call, construct}
 use Rattle.source_meaning.specs.Loops.{Iterable, Generated}
 use Rattle.source_meaning.specs.Expressions.{expr, exprs, condition, iterable, call_method, iterable_method, if_holds, gathered, comprehended, not_set, range_of, items_of}
@@ -35,6 +38,10 @@ all_true here scope (e ∷ more) = condition here scope e >>= λ t. if t then al
 -- the value of a name, by the text alone
 abbrev pub named : Scope → Spelling → Run Value
 named scope name = held_by scope name >>= if_set (codes "name is not set")
+
+-- the right one of two values that are compared, where the comparison holds
+abbrev pub follows : Rules → Comparator → Value → Value → Run (Option Value)
+follows rules by v w = operate rules (compared_made by v w) >>= truth rules >>= λ holds. pure (if holds then Some w else None)
 
 module _ (here : Setting) (scope : Scope) where
   -- a bound of a slice
@@ -79,7 +86,7 @@ module _ (here : Setting) (scope : Scope) where
 
   -- the right operand of a comparison, where it holds
   abbrev pub compares : Comparison → Value → Run (Option Value)
-  compares c v = expr here scope c.right >>= λ w. operate here.rules (compared_made c.comparator v w) >>= truth here.rules >>= λ holds. pure (if holds then Some w else None)
+  compares c v = expr here scope c.right >>= follows here.rules c.comparator v
 
   abbrev pub chained : List Comparison → Value → Run Value
   chained [] v = pure (value.Bool true)
@@ -108,9 +115,16 @@ module _ (here : Setting) (scope : Scope) where
   standard_goes Range parts = exprs here scope parts >>= range_of
   standard_goes which parts = items_of (standard which parts)
 
+  abbrev pub function_iterable : Known → List Expr → Run Iterable
+  function_iterable known parts =
+      if yields known.function.body then (exprs here scope parts >>= λ vs. pure (Generated known vs)) else items_of (exprs here scope parts >>= call here known)
+
+  abbrev pub class_iterable : ℕ → Class → List Expr → Run Iterable
+  class_iterable number class parts = items_of (exprs here scope parts >>= construct here number class)
+
   abbrev pub called_goes_by : Callee → Spelling → List Expr → Run Iterable
-  called_goes_by (Defined known) name parts =
-      if yields known.function.body then (exprs here scope parts >>= λ vs. pure (Generated known vs)) else items_of (called_by (Defined known) name parts)
+  called_goes_by (Defined known) name parts = function_iterable known parts
+  called_goes_by (Constructor number class) name parts = class_iterable number class parts
   called_goes_by (Standard which) name parts = standard_goes which parts
   called_goes_by other name parts = items_of (called_by other name parts)
 
@@ -118,10 +132,6 @@ module _ (here : Setting) (scope : Scope) where
   called_iterable name parts = called_goes_by (callee here.program scope name) name parts
 
   -- ---- comprehensions
-
-  -- in the text in which its names are its own
-  abbrev pub comprehended_in : LoopNames → Iterable → Option Expr → Expr → Run Value
-  comprehended_in names goes_over kept item = comprehended here scope names goes_over kept (condition_of here scope kept) item (expr here scope item)
 
   abbrev pub comprehended_of : LoopNames → Iterable → Option Expr → Expr → Run Value
   comprehended_of names goes_over kept item =

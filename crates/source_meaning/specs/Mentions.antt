@@ -23,7 +23,7 @@ use Rattle.source_trees.specs.declared.pipeline.StageForm.{StageForm}
 use Rattle.source_trees.specs.declared.pipeline.StageForm.TheVariants as form
 use Rattle.source_trees.specs.declared.pipeline.Stage.{Stage}
 use Rattle.source_meaning.specs.State.{Spelling, is_among}
-use Rattle.source_meaning.specs.Bodies.{loop_names}
+use Rattle.source_trees.specs.Names.{loop_names}
 
 -- a variable, a call or a stage by name, a call of a method, an assignment to a place of what a name holds
 pub data Note : Type 0 where

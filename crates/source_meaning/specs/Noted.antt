@@ -4,7 +4,7 @@ use Rattle.std.specs.List.{flat_map}
 use Rattle.source_trees.specs.declared.expression.Comparison.{Comparison, out-Comparison}
 use Rattle.source_trees.specs.declared.statement.Arm.{Arm, out-Arm}
 use Rattle.source_trees.specs.declared.statement.For.{For, out-For}
-use Rattle.source_meaning.specs.Bodies.{loop_names}
+use Rattle.source_trees.specs.Names.{loop_names}
 use Rattle.source_meaning.specs.Mentions as mentions
 use Rattle.source_meaning.specs.Mentions.{but_of, notes_of_expr, notes_of_loop_names, notes_of_body}
 use Rattle.source_meaning.specs.declared.mentions.Note.{Note}

@@ -12,11 +12,6 @@ use Rattle.source_meaning.specs.Task.{Region, Consumer, Body, Parallel, Setting}
 use Rattle.source_meaning.specs.Pipelines.{from_head}
 use Rattle.source_meaning.specs.Stages.{staged, staged_ahead}
 
--- what takes the items of a loop: its body, or in a region its body in an iteration for each
-abbrev pub consumer_in : Option Region → Scope → For → Consumer
-consumer_in None scope l = Body scope l.names l.body
-consumer_in (Some region) scope l = Parallel region scope l.names l.body
-
 module _ (here : Setting) (consumers : List Consumer) (scope : Scope) where
   -- a pipeline in a region that begins there
   abbrev pub headed_inside : Expr → List Stage → Region → Run Flow

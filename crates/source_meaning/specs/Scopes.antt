@@ -4,7 +4,7 @@ use Rattle.std.specs.List.{flat_map, list_any}
 use Rattle.source_trees.specs.declared.statement.LoopNames.{LoopNames}
 use Rattle.source_trees.specs.declared.statement.LoopNames.TheVariants as names
 use Rattle.source_meaning.specs.State.{Spelling, same, is_among}
-use Rattle.source_meaning.specs.Bodies.{loop_names}
+use Rattle.source_trees.specs.Names.{loop_names}
 use Rattle.source_meaning.specs.Program as program
 use Rattle.source_meaning.specs.declared.scope.Scope.{Scope}
 

@@ -49,12 +49,19 @@ module _ (here : Setting) where
     abbrev pub while_of : Scope → Expr → List Stmt → Run Flow
     while_of scope e body = loop here.limit (while_next here.limit (condition here scope e)) (λ _. statements here consumers scope body) tt
 
+    -- a loop in turn, as it is left
+    abbrev pub begun_for : Scope → For → Run Flow
+    begun_for scope l = iterable here scope l.iterable >>= λ goes_over. looped goes_over (Body scope l.names l.body)
+
     abbrev pub for_of : Scope → For → Run Flow
     for_of scope l = iterable here scope l.iterable >>= λ goes_over. looped goes_over (Body scope l.names l.body) >>= λ flow. pure (after_loop flow)
 
     -- a parallel loop that has begun
     abbrev pub parallel_by : Scope → LoopNames → List Stmt → loops.Iterable → Region → Run Flow
     parallel_by scope names body goes_over region = let inner = body_scope scope names body in here.rules.region region (looped goes_over (Parallel region inner names body))
+
+    abbrev pub parallel_left : Scope → For → loops.Iterable → Region → Run Flow
+    parallel_left scope l goes_over region = parallel_by scope l.names l.body goes_over region >>= λ flow. pure (after_loop flow)
 
     abbrev pub parallel_of : Scope → For → Run Flow
     parallel_of scope l =

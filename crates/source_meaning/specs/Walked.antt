@@ -5,7 +5,8 @@ use Rattle.source_trees.specs.declared.statement.Stmt.{Stmt, Stmt-F}
 use Rattle.source_trees.specs.declared.statement.Arm.{Arm, out-Arm}
 use Rattle.source_trees.specs.declared.statement.For.{For, out-For}
 use Rattle.source_meaning.specs.State.{Spelling}
-use Rattle.source_meaning.specs.Bodies.{loop_names, assigned_by, has_some, is_yield, is_return_of_value}
+use Rattle.source_meaning.specs.Bodies.{assigned_by, has_some, is_yield, is_return_of_value}
+use Rattle.source_trees.specs.Names.{loop_names}
 use Rattle.source_meaning.specs.declared.bodies.Sought.{Sought}
 use Rattle.source_meaning.specs.declared.bodies.Sought.TheVariants as sought
 

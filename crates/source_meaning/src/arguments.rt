@@ -50,6 +50,7 @@ fn after(params: &[Param], count: usize) -> &[Param]
 }
 
 /// The values of the parameters: those that are given, and then defaults. There are none where too many are given, or a value is missing.
+#[inline(never)]
 pub(crate) fn arguments(
     alloc: Global,
     params: &[Param],
@@ -81,6 +82,7 @@ fn entry_of(alloc: Global, param: &Param, value: &Value) -> Result<Entry, Memory
 }
 
 /// The names of a body that begins.
+#[inline(never)]
 pub(crate) fn parameters(alloc: Global, params: &[Param], given: &[Value]) -> Result<Names, Memory>
     ensures { IfOk result (λ names. names_of names ≡ spec.parameters params.now given.now) }
 {

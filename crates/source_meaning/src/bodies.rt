@@ -4,7 +4,8 @@
 
 ghost use Rattle.std.specs.Prelude.{◌≡◌, ◌++◌, ◌∷◌, [], map, OnOk};
 ghost use Rattle.std.specs.List.{flat_map, list_any};
-ghost use Rattle.source_meaning.specs.Bodies.{loop_names, target_names, targets_names, annotated_name, assigned_by, has_some, yields, gives_value};
+ghost use Rattle.source_meaning.specs.Bodies.{annotated_name, assigned_by, has_some, yields, gives_value};
+ghost use Rattle.source_trees.specs.Names.{loop_names, target_names, targets_names};
 ghost use Rattle.source_meaning.specs.Walked.{kept_if, assigned_arm, assigned_for, test_of, some_arm, some_for};
 
 use codon_base::{Memory, Spelling};

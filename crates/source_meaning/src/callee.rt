@@ -103,6 +103,7 @@ fn defined_in_module<'m>(program: &'m Prepared<'m>, name: &Spelling) -> Callee<'
 
 /// What a name that is called means in a text.
 #[tactic(auto, unfolding(crate::specs::Tasks::program_of))]
+#[inline(never)]
 pub(crate) fn resolve<'m>(
     program: &'m Prepared<'m>,
     scope: &Scope<'_>,

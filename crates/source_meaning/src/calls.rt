@@ -32,6 +32,7 @@ impl<
     ) -> Result<Flow, Stop>,
 > Runner<'m, F> {
     /// Runs the body of a function on its arguments.
+    #[inline(never)]
     fn enter(&self, state: &mut State, called: Called<'_>, given: &[Value]) -> Result<Value, Stop>
         requires { Nests self.now.program.now self.now.limit self.now.depth (F.pre self.now.low) (F.post self.now.low) }
         ensures { Tells (spec.enter (here self.now.program.now self.now.limit self.now.depth) (known_of called.entry) given.now (seen state.old)) result state.new }
@@ -50,6 +51,7 @@ impl<
     }
 
     /// A call of a function that is no generator.
+    #[inline(never)]
     pub(crate) fn call(
         &self,
         state: &mut State,
@@ -69,6 +71,7 @@ impl<
     }
 
     /// A new instance, whose fields its `__init__` sets, or which takes the arguments as its fields where there is none.
+    #[inline(never)]
     pub(crate) fn construct(
         &self,
         state: &mut State,
@@ -96,6 +99,7 @@ impl<
         }
     }
 
+    #[inline(never)]
     fn construct_by(
         &self,
         state: &mut State,
@@ -118,6 +122,7 @@ impl<
     }
 
     /// Runs the `__init__` of a new instance.
+    #[inline(never)]
     fn initialize(
         &self,
         state: &mut State,

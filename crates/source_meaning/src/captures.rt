@@ -66,6 +66,7 @@ fn push_not_fixed(
 }
 
 /// The names that no region in the body of a parallel loop has as private ones.
+#[inline(never)]
 pub(crate) fn fixed_of(
     alloc: Global,
     scope: &Scope<'_>,
@@ -413,6 +414,7 @@ fn begin(
 }
 
 /// What a parallel loop is when it begins. It lends lists where it goes over a range.
+#[inline(never)]
 pub(crate) fn begin_loop(
     alloc: Global,
     state: &mut State,

@@ -4,6 +4,7 @@ ghost use Rattle.std.specs.Prelude.{◌≡◌};
 ghost use Rattle.source_meaning.specs.Loops as spec;
 ghost use Rattle.source_meaning.specs.Iterations.{in_place};
 ghost use Rattle.source_meaning.specs.Cursors.{next_by, advanced, begun};
+ghost use Rattle.source_meaning.specs.Entered.{TellsAdvanced};
 ghost use Rattle.source_meaning.specs.declared.iterable.Cursor.TheVariants as cursors;
 ghost use Rattle.source_meaning.specs.Seen.{seen, Tells};
 
@@ -13,6 +14,7 @@ use crate::state::{State, Stop};
 use crate::variables::{fault, tick};
 use codon_base::{FaultKind, Value};
 use std::alloc::Global;
+use std::mem;
 
 /// Whether a range goes on at a number.
 fn is_before(step: i64, stop: i64, at: i64) -> bool
@@ -63,6 +65,7 @@ fn item_next(
 }
 
 /// The item of a turn, for which a tick is taken, and what comes after it, or the end.
+#[inline(never)]
 pub(crate) fn next(
     alloc: Global,
     state: &mut State,
@@ -78,7 +81,26 @@ pub(crate) fn next(
     }
 }
 
+/// The item of a turn, for which a tick is taken, where there is one. The cursor moves behind it.
+#[inline(never)]
+pub(crate) fn advance(
+    alloc: Global,
+    state: &mut State,
+    limit: u64,
+    cursor: &mut Cursor,
+) -> Result<Option<Value>, Stop>
+    ensures { TellsAdvanced (next_by in_place limit cursor.old (seen state.old)) result cursor.new state.new }
+{
+    let from = mem::replace(cursor, Cursor::Ended);
+    let Some(item) = next(alloc, state, limit, from)? else {
+        return Ok(None);
+    };
+    *cursor = item.1;
+    Ok(Some(item.0))
+}
+
 /// Where a range begins, whose step is not 0.
+#[inline(never)]
 pub(crate) fn begun(
     alloc: Global,
     state: &State,

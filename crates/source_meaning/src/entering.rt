@@ -35,6 +35,7 @@ impl<
     ) -> Result<Flow, Stop>,
 > Runner<'m, F> {
     /// Begins a loop. One over a call of a generator is made whole, and tells how it was left; the turns of every other are to be made from the cursor on.
+    #[inline(never)]
     pub(crate) fn enter_loop(
         &self,
         state: &mut State,
@@ -70,6 +71,7 @@ impl<
 }
 
 /// Gives the item of the next turn to the names of a loop, for which a tick is taken, and moves the cursor behind it. The answer is whether there was one.
+#[inline(never)]
 pub(crate) fn step(
     alloc: Global,
     state: &mut State,

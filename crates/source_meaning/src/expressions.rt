@@ -1,57 +1,37 @@
-#![tactic(auto, unfolding(crate::specs::Outcome::bind, crate::specs::Outcome::pure, crate::specs::Outcome::stop, crate::specs::Outcome::framed, crate::specs::Outcome::look))]
+#![tactic(auto, unfolding(crate::specs::Outcome::bind, crate::specs::Outcome::pure, crate::specs::Outcome::stop))]
 
-ghost use Rattle.std.specs.Prelude.{◌≡◌, [], IfOk};
 ghost use Rattle.codon_base.specs.declared.value.Value.TheVariants as value;
-ghost use Rattle.source_meaning.specs.Outcome.{pure};
 ghost use Rattle.source_meaning.specs.Expressions as spec;
+ghost use Rattle.source_meaning.specs.Forms.{IsConditional, IsBinary, IsIndex, IsMethodCall, IsSlice};
 ghost use Rattle.source_meaning.specs.Lists as lists;
-ghost use Rattle.source_meaning.specs.Lists.{some_true, all_true, bound, chained, compares, called, standard, standard_goes, called_iterable, comprehended_of, comprehended_in};
-ghost use Rattle.source_meaning.specs.Forms.{IsConditional, IsBinary, IsIndex, IsCompare, IsMethodCall, IsSlice, IsNoCall, Comprehends, IsComprehension};
-ghost use Rattle.source_meaning.specs.Callees.{builtin_of};
-ghost use Rattle.source_meaning.specs.Loops.{Numbers};
-ghost use Rattle.source_meaning.specs.Meaning.{condition_of, turn_of};
-ghost use Rattle.source_meaning.specs.Program.{ToList};
+ghost use Rattle.source_meaning.specs.Lists.{some_true, all_true, bound};
+ghost use Rattle.source_meaning.specs.Outcome.{pure};
 ghost use Rattle.source_meaning.specs.Scopes.{scope_of};
-ghost use Rattle.source_meaning.specs.Seen.{seen, names_of, Tells, TellsBy, TellsFlow};
-ghost use Rattle.source_meaning.specs.Steps.{iterable_of, looped, turns_from};
-ghost use Rattle.source_meaning.specs.Task.{Comprehension};
+ghost use Rattle.source_meaning.specs.Seen.{seen, Tells};
 ghost use Rattle.source_meaning.specs.Tasks.{Nests, here};
 
-use crate::callee::{Builtin, Callee, resolve};
-use crate::cursor::{begun, next};
-use crate::flow::{End, Flow, ended, goes_on};
-use crate::frames::swap_names;
-use crate::iterable::{Cursor, Iterable};
-use crate::loops::is_within;
+use crate::flow::Flow;
 use crate::objects::{allocate, field, item_at, slice};
-use crate::operations::{binary, builtin, compared, truth, unary};
+use crate::operations::{binary, truth, unary};
 use crate::prepared::Prepared;
-use crate::ranges::range_of;
 use crate::runner::Runner;
-use crate::scope::{Inner, Scope, within};
-use crate::state::{Names, State, Stop};
+use crate::scope::Scope;
+use crate::state::{State, Stop};
 use crate::task::{Consumer, Task};
-use crate::variables::{fault, left, read_name, set_loop_names, wrong};
-use codon_base::{FaultKind, Memory, Object, Spelling, Text, Value, Values};
-use source_trees::{BinaryOp, Comparison, Expr, LoopNames, UnaryOp};
+use crate::variables::read_name;
+use codon_base::{Object, Spelling, Text, Value, Values};
+use source_trees::{BinaryOp, Expr, UnaryOp};
 use sqlite_items::{Boxed, Items};
 use std::alloc::Global;
 
-/// The names that run, as they are.
-#[tactic(auto, unfolding(crate::specs::Seen::seen))]
-fn names_now(alloc: Global, state: &State) -> Result<Names, Memory>
-    ensures { IfOk result (λ own. names_of own ≡ (seen state.now).names) }
-{
-    let own = state.names.try_clone(alloc)?;
-    Ok(own)
-}
-
+#[inline(never)]
 fn number_value(state: &State, number: &i64) -> Result<Value, Stop>
     ensures { Tells (pure (value.Int number.now) (seen state.now)) result state.now }
 {
     Ok(Value::Int(*number))
 }
 
+#[inline(never)]
 fn text_value(alloc: Global, state: &State, text: &Text) -> Result<Value, Stop>
     ensures { Tells (pure (value.Text text.now) (seen state.now)) result state.now }
 {
@@ -73,6 +53,7 @@ impl<
 > Runner<'m, F> {
     /// What an expression gives.
     #[cycle(expression)]
+    #[inline(never)]
     pub(crate) fn expr(&self, state: &mut State, scope: &Scope<'_>, e: &Expr) -> Result<Value, Stop>
         requires { Nests self.now.program.now self.now.limit self.now.depth (F.pre self.now.low) (F.post self.now.low) }
         ensures { Tells (spec.expr (here self.now.program.now self.now.limit self.now.depth) (scope_of scope.now) e.now (seen state.old)) result state.new }
@@ -111,6 +92,7 @@ impl<
 
     /// `(a, b)`.
     #[cycle(expression)]
+    #[inline(never)]
     fn tuple(
         &self,
         state: &mut State,
@@ -126,6 +108,7 @@ impl<
 
     /// `[a, b]`.
     #[cycle(expression)]
+    #[inline(never)]
     fn list(&self, state: &mut State, scope: &Scope<'_>, items: &Items<Expr>) -> Result<Value, Stop>
         requires { Nests self.now.program.now self.now.limit self.now.depth (F.pre self.now.low) (F.post self.now.low) }
         ensures { Tells (lists.list (here self.now.program.now self.now.limit self.now.depth) (scope_of scope.now) items.now (seen state.old)) result state.new }
@@ -136,6 +119,7 @@ impl<
 
     /// `first if condition else other`.
     #[cycle(expression)]
+    #[inline(never)]
     fn conditional(
         &self,
         state: &mut State,
@@ -158,6 +142,7 @@ impl<
 
     /// `not operand`.
     #[cycle(expression)]
+    #[inline(never)]
     fn negated(
         &self,
         state: &mut State,
@@ -173,6 +158,7 @@ impl<
 
     /// `by operand`.
     #[cycle(expression)]
+    #[inline(never)]
     fn unary(
         &self,
         state: &mut State,
@@ -189,6 +175,7 @@ impl<
 
     /// `left by right`.
     #[cycle(expression)]
+    #[inline(never)]
     fn binary(
         &self,
         state: &mut State,
@@ -209,6 +196,7 @@ impl<
 
     /// `container[index]`.
     #[cycle(expression)]
+    #[inline(never)]
     fn index(
         &self,
         state: &mut State,
@@ -228,6 +216,7 @@ impl<
 
     /// `object.name`.
     #[cycle(expression)]
+    #[inline(never)]
     fn field(
         &self,
         state: &mut State,
@@ -242,46 +231,9 @@ impl<
         field(self.alloc, state, self.program, &v, name)
     }
 
-    /// `[item for names in iterable if condition]`.
-    #[cycle(expression)]
-    fn comprehended(
-        &self,
-        state: &mut State,
-        scope: &Scope<'_>,
-        e: &Expr,
-        iterable: &Boxed<Expr>,
-        names: &LoopNames,
-        item: &Boxed<Expr>,
-        condition: &Option<Boxed<Expr>>,
-    ) -> Result<Value, Stop>
-        requires nests { Nests self.now.program.now self.now.limit self.now.depth (F.pre self.now.low) (F.post self.now.low) }
-        requires form { Comprehends e.now names.now iterable.now condition.now item.now }
-        ensures { Tells (lists.comprehension (here self.now.program.now self.now.limit self.now.depth) (scope_of scope.now) names.now iterable.now condition.now item.now (seen state.old)) result state.new }
-    {
-        let goes_over = self.iterable(state, scope, iterable.get())?;
-        self.comprehension(state, scope, e, goes_over, names, item, condition)
-    }
-
-    /// A chain of comparisons.
-    #[cycle(expression)]
-    fn comparison(
-        &self,
-        state: &mut State,
-        scope: &Scope<'_>,
-        e: &Expr,
-        first: &Boxed<Expr>,
-        others: &Items<Comparison>,
-    ) -> Result<Value, Stop>
-        requires nests { Nests self.now.program.now self.now.limit self.now.depth (F.pre self.now.low) (F.post self.now.low) }
-        requires form { IsCompare e.now first.now others.now }
-        ensures { Tells (lists.comparison (here self.now.program.now self.now.limit self.now.depth) (scope_of scope.now) first.now others.now (seen state.old)) result state.new }
-    {
-        let v = self.expr(state, scope, first.get())?;
-        self.chain(state, scope, others.as_slice(), v)
-    }
-
     /// `object.name(parts)`.
     #[cycle(expression)]
+    #[inline(never)]
     fn method_called(
         &self,
         state: &mut State,
@@ -302,6 +254,7 @@ impl<
 
     /// `part[from:to]`.
     #[cycle(expression)]
+    #[inline(never)]
     fn sliced(
         &self,
         state: &mut State,
@@ -321,8 +274,27 @@ impl<
         slice(self.alloc, state, &v, &start, &stop)
     }
 
+    /// A bound of a slice, which is None where it is not written.
+    #[cycle(expression)]
+    #[inline(never)]
+    fn bound(
+        &self,
+        state: &mut State,
+        scope: &Scope<'_>,
+        e: &Option<Boxed<Expr>>,
+    ) -> Result<Value, Stop>
+        requires { Nests self.now.program.now self.now.limit self.now.depth (F.pre self.now.low) (F.post self.now.low) }
+        ensures { Tells (bound (here self.now.program.now self.now.limit self.now.depth) (scope_of scope.now) e.now (seen state.old)) result state.new }
+    {
+        match e {
+            Some(e) => self.expr(state, scope, e.get()),
+            None => Ok(Value::Unit),
+        }
+    }
+
     /// What expressions give, in order.
     #[cycle(expression)]
+    #[inline(never)]
     pub(crate) fn exprs(
         &self,
         state: &mut State,
@@ -341,6 +313,7 @@ impl<
 
     /// Whether a condition holds.
     #[cycle(expression)]
+    #[inline(never)]
     pub(crate) fn condition(
         &self,
         state: &mut State,
@@ -355,6 +328,7 @@ impl<
     }
 
     #[cycle(expression)]
+    #[inline(never)]
     fn some_true(
         &self,
         state: &mut State,
@@ -373,6 +347,7 @@ impl<
     }
 
     #[cycle(expression)]
+    #[inline(never)]
     fn all_true(
         &self,
         state: &mut State,
@@ -388,473 +363,5 @@ impl<
             }
         }
         Ok(Value::Bool(true))
-    }
-
-    /// A bound of a slice, which is None where it is not written.
-    #[cycle(expression)]
-    fn bound(
-        &self,
-        state: &mut State,
-        scope: &Scope<'_>,
-        e: &Option<Boxed<Expr>>,
-    ) -> Result<Value, Stop>
-        requires { Nests self.now.program.now self.now.limit self.now.depth (F.pre self.now.low) (F.post self.now.low) }
-        ensures { Tells (bound (here self.now.program.now self.now.limit self.now.depth) (scope_of scope.now) e.now (seen state.old)) result state.new }
-    {
-        match e {
-            Some(e) => self.expr(state, scope, e.get()),
-            None => Ok(Value::Unit),
-        }
-    }
-
-    /// The condition of a comprehension, which holds where it is not written.
-    #[cycle(expression)]
-    fn kept(
-        &self,
-        state: &mut State,
-        scope: &Scope<'_>,
-        e: &Option<Boxed<Expr>>,
-    ) -> Result<bool, Stop>
-        requires { Nests self.now.program.now self.now.limit self.now.depth (F.pre self.now.low) (F.post self.now.low) }
-        ensures { Tells (condition_of (here self.now.program.now self.now.limit self.now.depth) (scope_of scope.now) e.now (seen state.old)) result state.new }
-    {
-        match e {
-            Some(e) => self.condition(state, scope, e.get()),
-            None => Ok(true),
-        }
-    }
-
-    /// The rest of a chain of comparisons, by its left operand.
-    #[cycle(expression)]
-    #[tactic(auto, unfolding(crate::specs::Outcome::bind, crate::specs::Outcome::pure, crate::specs::Outcome::stop), using(crate::proofs::Parts::chain_rules))]
-    fn chain(
-        &self,
-        state: &mut State,
-        scope: &Scope<'_>,
-        others: &[Comparison],
-        first: Value,
-    ) -> Result<Value, Stop>
-        requires { Nests self.now.program.now self.now.limit self.now.depth (F.pre self.now.low) (F.post self.now.low) }
-        ensures { Tells (chained (here self.now.program.now self.now.limit self.now.depth) (scope_of scope.now) others.now first (seen state.old)) result state.new }
-    {
-        let mut v = first;
-        'chain: for each in others {
-            let Some(w) = self.compare(state, scope, each, v)? else {
-                return Ok(Value::Bool(false));
-            };
-            v = w;
-        }
-        Ok(Value::Bool(true))
-    }
-
-    /// The right operand of a comparison, where it holds.
-    #[cycle(expression)]
-    fn compare(
-        &self,
-        state: &mut State,
-        scope: &Scope<'_>,
-        each: &Comparison,
-        v: Value,
-    ) -> Result<Option<Value>, Stop>
-        requires { Nests self.now.program.now self.now.limit self.now.depth (F.pre self.now.low) (F.post self.now.low) }
-        ensures { Tells (compares (here self.now.program.now self.now.limit self.now.depth) (scope_of scope.now) each.now v (seen state.old)) result state.new }
-    {
-        let w = self.expr(state, scope, &each.right)?;
-        let made = compared(self.alloc, state, each.comparator, &v, &w)?;
-        if truth(self.alloc, state, &made)? {
-            Ok(Some(w))
-        } else {
-            Ok(None)
-        }
-    }
-
-    /// A call by name.
-    #[cycle(expression)]
-    fn called(
-        &self,
-        state: &mut State,
-        scope: &Scope<'_>,
-        name: &Spelling,
-        parts: &Items<Expr>,
-    ) -> Result<Value, Stop>
-        requires { Nests self.now.program.now self.now.limit self.now.depth (F.pre self.now.low) (F.post self.now.low) }
-        ensures { Tells (called (here self.now.program.now self.now.limit self.now.depth) (scope_of scope.now) name.now parts.now (seen state.old)) result state.new }
-    {
-        match resolve(self.program, scope, name) {
-            Callee::Variable => {
-                let _ = read_name(self.alloc, state, scope, name)?;
-                Err(wrong(self.alloc))
-            }
-            Callee::Unknown => Err(fault(self.alloc, FaultKind::Runtime, b"name is not set")),
-            Callee::Defined(called) => {
-                let given = self.exprs(state, scope, parts.as_slice())?;
-                self.call(state, called, given)
-            }
-            Callee::Constructor(c) => {
-                let given = self.exprs(state, scope, parts.as_slice())?;
-                self.construct(state, c, given)
-            }
-            Callee::Standard(which) => self.standard(state, scope, which, parts.as_slice()),
-        }
-    }
-
-    /// A builtin on what is written there.
-    #[cycle(expression)]
-    fn standard(
-        &self,
-        state: &mut State,
-        scope: &Scope<'_>,
-        which: Builtin,
-        parts: &[Expr],
-    ) -> Result<Value, Stop>
-        requires { Nests self.now.program.now self.now.limit self.now.depth (F.pre self.now.low) (F.post self.now.low) }
-        ensures { Tells (standard (here self.now.program.now self.now.limit self.now.depth) (scope_of scope.now) (builtin_of which) parts.now (seen state.old)) result state.new }
-    {
-        match which {
-            Builtin::ToList => self.listed(state, scope, parts),
-            other => {
-                let given = self.exprs(state, scope, parts)?;
-                builtin(self.alloc, state, other, given.as_slice())
-            }
-        }
-    }
-
-    /// `list(..)` of what is written there.
-    #[cycle(expression)]
-    fn listed(&self, state: &mut State, scope: &Scope<'_>, parts: &[Expr]) -> Result<Value, Stop>
-        requires { Nests self.now.program.now self.now.limit self.now.depth (F.pre self.now.low) (F.post self.now.low) }
-        ensures { Tells (standard (here self.now.program.now self.now.limit self.now.depth) (scope_of scope.now) ToList parts.now (seen state.old)) result state.new }
-    {
-        let [part] = parts else {
-            let given = self.exprs(state, scope, parts)?;
-            return builtin(self.alloc, state, Builtin::ToList, given.as_slice());
-        };
-        let goes_over = self.iterable(state, scope, part)?;
-        self.gathered(state, goes_over)
-    }
-
-    /// What a loop goes over.
-    #[cycle(expression)]
-    pub(crate) fn iterable(
-        &self,
-        state: &mut State,
-        scope: &Scope<'_>,
-        e: &Expr,
-    ) -> Result<Iterable<'m>, Stop>
-        requires { Nests self.now.program.now self.now.limit self.now.depth (F.pre self.now.low) (F.post self.now.low) }
-        ensures { TellsBy iterable_of (spec.iterable (here self.now.program.now self.now.limit self.now.depth) (scope_of scope.now) e.now (seen state.old)) result state.new }
-    {
-        match e {
-            Expr::Call(_, name, parts) => self.called_iterable(state, scope, &name.spelling, parts),
-            Expr::MethodCall(_, _, object, name, parts) => self.method_iterable(
-                state, scope, e, object, name, parts,
-            ),
-            _ => self.value_iterable(state, scope, e),
-        }
-    }
-
-    /// What a loop goes over that a call of a method gives.
-    #[cycle(expression)]
-    fn method_iterable(
-        &self,
-        state: &mut State,
-        scope: &Scope<'_>,
-        e: &Expr,
-        object: &Boxed<Expr>,
-        name: &Spelling,
-        parts: &Items<Expr>,
-    ) -> Result<Iterable<'m>, Stop>
-        requires nests { Nests self.now.program.now self.now.limit self.now.depth (F.pre self.now.low) (F.post self.now.low) }
-        requires form { IsMethodCall e.now object.now name.now parts.now }
-        ensures { TellsBy iterable_of (lists.method_iterable (here self.now.program.now self.now.limit self.now.depth) (scope_of scope.now) object.now name.now parts.now (seen state.old)) result state.new }
-    {
-        let v = self.expr(state, scope, object.get())?;
-        let given = self.exprs(state, scope, parts.as_slice())?;
-        self.iterable_method(state, v, name, given)
-    }
-
-    /// What a loop goes over that is no call.
-    #[cycle(expression)]
-    fn value_iterable(
-        &self,
-        state: &mut State,
-        scope: &Scope<'_>,
-        e: &Expr,
-    ) -> Result<Iterable<'m>, Stop>
-        requires nests { Nests self.now.program.now self.now.limit self.now.depth (F.pre self.now.low) (F.post self.now.low) }
-        requires form { IsNoCall e.now }
-        ensures { TellsBy iterable_of (spec.iterable (here self.now.program.now self.now.limit self.now.depth) (scope_of scope.now) e.now (seen state.old)) result state.new }
-    {
-        match self.expr(state, scope, e) {
-            Ok(v) => Ok(Iterable::Items(v)),
-            Err(why) => Err(why),
-        }
-    }
-
-    /// What a loop goes over that a call by name gives.
-    #[cycle(expression)]
-    fn called_iterable(
-        &self,
-        state: &mut State,
-        scope: &Scope<'_>,
-        name: &Spelling,
-        parts: &Items<Expr>,
-    ) -> Result<Iterable<'m>, Stop>
-        requires { Nests self.now.program.now self.now.limit self.now.depth (F.pre self.now.low) (F.post self.now.low) }
-        ensures { TellsBy iterable_of (called_iterable (here self.now.program.now self.now.limit self.now.depth) (scope_of scope.now) name.now parts.now (seen state.old)) result state.new }
-    {
-        match resolve(self.program, scope, name) {
-            Callee::Defined(known) => {
-                let given = self.exprs(state, scope, parts.as_slice())?;
-                if known.known.yields {
-                    return Ok(Iterable::Generated(known, given));
-                }
-                let v = self.call(state, known, given)?;
-                Ok(Iterable::Items(v))
-            }
-            Callee::Standard(which) => self.standard_iterable(
-                state,
-                scope,
-                which,
-                parts.as_slice(),
-            ),
-            Callee::Constructor(c) => {
-                let given = self.exprs(state, scope, parts.as_slice())?;
-                let v = self.construct(state, c, given)?;
-                Ok(Iterable::Items(v))
-            }
-            Callee::Variable => {
-                let _ = read_name(self.alloc, state, scope, name)?;
-                Err(wrong(self.alloc))
-            }
-            Callee::Unknown => Err(fault(self.alloc, FaultKind::Runtime, b"name is not set")),
-        }
-    }
-
-    /// What a loop goes over that a builtin gives.
-    #[cycle(expression)]
-    fn standard_iterable(
-        &self,
-        state: &mut State,
-        scope: &Scope<'_>,
-        which: Builtin,
-        parts: &[Expr],
-    ) -> Result<Iterable<'m>, Stop>
-        requires { Nests self.now.program.now self.now.limit self.now.depth (F.pre self.now.low) (F.post self.now.low) }
-        ensures { TellsBy iterable_of (standard_goes (here self.now.program.now self.now.limit self.now.depth) (scope_of scope.now) (builtin_of which) parts.now (seen state.old)) result state.new }
-    {
-        match which {
-            Builtin::Range => {
-                let given = self.exprs(state, scope, parts)?;
-                let goes_over = range_of(self.alloc, given)?;
-                Ok(goes_over)
-            }
-            other => {
-                let v = self.standard(state, scope, other, parts)?;
-                Ok(Iterable::Items(v))
-            }
-        }
-    }
-
-    /// The list of a comprehension.
-    #[cycle(expression)]
-    fn comprehension(
-        &self,
-        state: &mut State,
-        scope: &Scope<'_>,
-        e: &Expr,
-        goes_over: Iterable<'m>,
-        names: &LoopNames,
-        item: &Boxed<Expr>,
-        condition: &Option<Boxed<Expr>>,
-    ) -> Result<Value, Stop>
-        requires nests { Nests self.now.program.now self.now.limit self.now.depth (F.pre self.now.low) (F.post self.now.low) }
-        requires form { IsComprehension e.now names.now condition.now item.now }
-        ensures { Tells (comprehended_of (here self.now.program.now self.now.limit self.now.depth) (scope_of scope.now) names.now (iterable_of goes_over.entry) condition.now item.now (seen state.old)) result state.new }
-    {
-        let all = within(self.alloc, Inner { names }, scope.inner)?;
-        let inner = Scope {
-            inner: &all,
-            locals: scope.locals,
-            fixed: scope.fixed,
-            in_prelude: scope.in_prelude,
-        };
-        self.comprehension_in(state, &inner, e, goes_over, names, item, condition)
-    }
-
-    /// The same by the text in which its names are its own.
-    #[cycle(expression)]
-    fn comprehension_in(
-        &self,
-        state: &mut State,
-        inner: &Scope<'_>,
-        e: &Expr,
-        goes_over: Iterable<'m>,
-        names: &LoopNames,
-        item: &Boxed<Expr>,
-        condition: &Option<Boxed<Expr>>,
-    ) -> Result<Value, Stop>
-        requires nests { Nests self.now.program.now self.now.limit self.now.depth (F.pre self.now.low) (F.post self.now.low) }
-        requires form { IsComprehension e.now names.now condition.now item.now }
-        ensures { Tells (comprehended_in (here self.now.program.now self.now.limit self.now.depth) (scope_of inner.now) names.now (iterable_of goes_over.entry) condition.now item.now (seen state.old)) result state.new }
-    {
-        let list = allocate(state, Object::List(Items::new(self.alloc)))?;
-        let own = names_now(self.alloc, state)?;
-        match self.gather(state, inner, e, goes_over, names, item, condition, &list) {
-            Ok(_) => {
-                let _ = swap_names(state, own);
-                Ok(list)
-            }
-            Err(why) => Err(why),
-        }
-    }
-
-    /// The loop of a comprehension.
-    #[cycle(expression)]
-    fn gather(
-        &self,
-        state: &mut State,
-        inner: &Scope<'_>,
-        e: &Expr,
-        goes_over: Iterable<'m>,
-        names: &LoopNames,
-        item: &Boxed<Expr>,
-        condition: &Option<Boxed<Expr>>,
-        list: &Value,
-    ) -> Result<Flow, Stop>
-        requires nests { Nests self.now.program.now self.now.limit self.now.depth (F.pre self.now.low) (F.post self.now.low) }
-        requires form { IsComprehension e.now names.now condition.now item.now }
-        ensures { TellsFlow (looped (here self.now.program.now self.now.limit self.now.depth) [] (iterable_of goes_over.entry) (Comprehension (scope_of inner.now) names.now condition.now item.now list.now) (seen state.old)) result state.new }
-    {
-        match goes_over {
-            Iterable::Generated(called, given) => self.generate(
-                state,
-                &[],
-                Consumer::Comprehension(*inner, names, condition, item, list),
-                called,
-                given,
-            ),
-            Iterable::Items(container) => self.gather_turns(
-                state,
-                inner,
-                e,
-                Cursor::Item(container, 0),
-                names,
-                item,
-                condition,
-                list,
-            ),
-            Iterable::Numbers(start, stop, step) => self.gather_numbers(
-                state, inner, e, &start, &stop, &step, names, item, condition, list,
-            ),
-        }
-    }
-
-    #[cycle(expression)]
-    fn gather_numbers(
-        &self,
-        state: &mut State,
-        inner: &Scope<'_>,
-        e: &Expr,
-        start: &Value,
-        stop: &Value,
-        step: &Value,
-        names: &LoopNames,
-        item: &Boxed<Expr>,
-        condition: &Option<Boxed<Expr>>,
-        list: &Value,
-    ) -> Result<Flow, Stop>
-        requires nests { Nests self.now.program.now self.now.limit self.now.depth (F.pre self.now.low) (F.post self.now.low) }
-        requires form { IsComprehension e.now names.now condition.now item.now }
-        ensures { TellsFlow (looped (here self.now.program.now self.now.limit self.now.depth) [] (Numbers start.now stop.now step.now) (Comprehension (scope_of inner.now) names.now condition.now item.now list.now) (seen state.old)) result state.new }
-    {
-        match begun(self.alloc, state, start, stop, step) {
-            Ok(cursor) => {
-                is_within(&cursor);
-                self.gather_turns(state, inner, e, cursor, names, item, condition, list)
-            }
-            Err(why) => Err(why),
-        }
-    }
-
-    #[cycle(expression)]
-    fn gather_turns(
-        &self,
-        state: &mut State,
-        inner: &Scope<'_>,
-        e: &Expr,
-        from: Cursor,
-        names: &LoopNames,
-        gathered: &Boxed<Expr>,
-        condition: &Option<Boxed<Expr>>,
-        list: &Value,
-    ) -> Result<Flow, Stop>
-        requires nests { Nests self.now.program.now self.now.limit self.now.depth (F.pre self.now.low) (F.post self.now.low) }
-        requires form { IsComprehension e.now names.now condition.now gathered.now }
-        ensures { TellsFlow (turns_from (here self.now.program.now self.now.limit self.now.depth) (turn_of (here self.now.program.now self.now.limit self.now.depth) [] (Comprehension (scope_of inner.now) names.now condition.now gathered.now list.now)) from (seen state.old)) result state.new }
-    {
-        let mut left = left(state, self.limit);
-        let mut cursor = from;
-        'turns: loop {
-            let Some(item) = next(self.alloc, state, self.limit, cursor)? else {
-                return Ok(ended(End::Next));
-            };
-            let flow = self.turn(state, inner, e, names, gathered, condition, list, item.0)?;
-            if !goes_on(&flow) {
-                return Ok(flow);
-            }
-            if left == 0 {
-                return Err(Stop::OutOfFuel);
-            }
-            left -= 1;
-            cursor = item.1;
-        }
-    }
-
-    /// A turn of a comprehension.
-    #[cycle(expression)]
-    fn turn(
-        &self,
-        state: &mut State,
-        inner: &Scope<'_>,
-        e: &Expr,
-        names: &LoopNames,
-        item: &Boxed<Expr>,
-        condition: &Option<Boxed<Expr>>,
-        list: &Value,
-        v: Value,
-    ) -> Result<Flow, Stop>
-        requires nests { Nests self.now.program.now self.now.limit self.now.depth (F.pre self.now.low) (F.post self.now.low) }
-        requires form { IsComprehension e.now names.now condition.now item.now }
-        ensures { TellsFlow (turn_of (here self.now.program.now self.now.limit self.now.depth) [] (Comprehension (scope_of inner.now) names.now condition.now item.now list.now) v (seen state.old)) result state.new }
-    {
-        set_loop_names(self.alloc, state, inner, names, v)?;
-        if !self.kept(state, inner, condition)? {
-            return Ok(ended(End::Next));
-        }
-        let v = self.expr(state, inner, item.get())?;
-        self.append_to(state, list, v)
-    }
-
-    /// A turn of a comprehension whose items a generator gives.
-    pub(crate) fn gather_one(
-        &self,
-        state: &mut State,
-        inner: &Scope<'_>,
-        names: &LoopNames,
-        item: &Boxed<Expr>,
-        condition: &Option<Boxed<Expr>>,
-        list: &Value,
-        v: Value,
-    ) -> Result<Flow, Stop>
-        requires { Nests self.now.program.now self.now.limit self.now.depth (F.pre self.now.low) (F.post self.now.low) }
-        ensures { TellsFlow (turn_of (here self.now.program.now self.now.limit self.now.depth) [] (Comprehension (scope_of inner.now) names.now condition.now item.now list.now) v (seen state.old)) result state.new }
-    {
-        set_loop_names(self.alloc, state, inner, names, v)?;
-        if !self.kept(state, inner, condition)? {
-            return Ok(ended(End::Next));
-        }
-        let v = self.expr(state, inner, item.get())?;
-        self.append_to(state, list, v)
     }
 }

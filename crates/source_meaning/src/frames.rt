@@ -11,6 +11,7 @@ use std::alloc::Global;
 use std::mem;
 
 /// Runs with other names, and hands out those that ran.
+#[inline(never)]
 pub(crate) fn swap_names(state: &mut State, names: Names) -> Names
     ensures new { seen state.new ≡ with_names (names_of names) (seen state.old) }
     ensures old { names_of result ≡ (seen state.old).names }
@@ -19,6 +20,7 @@ pub(crate) fn swap_names(state: &mut State, names: Names) -> Names
 }
 
 /// Lets the names that run wait, and runs with others.
+#[inline(never)]
 pub(crate) fn wait(state: &mut State, names: Names) -> Result<(), Memory>
     ensures { OnOk result (seen state.new ≡ waited (names_of names) (seen state.old)) }
 {
@@ -28,6 +30,7 @@ pub(crate) fn wait(state: &mut State, names: Names) -> Result<(), Memory>
 }
 
 /// Runs with the names that wait innermost, and hands out those that ran.
+#[inline(never)]
 pub(crate) fn wake(alloc: Global, state: &mut State) -> Result<Names, Stop>
     ensures { TellsNames (taken (seen state.old)) result state.new }
 {

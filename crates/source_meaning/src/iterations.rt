@@ -29,19 +29,21 @@ pub(crate) struct Begun {
 }
 
 /// Begins the iteration of an item that has come to a region, with the private names of the region fresh.
+#[inline(never)]
 pub(crate) fn enter_iteration(
     alloc: Global,
     state: &mut State,
     region: &Region,
-    item: Value,
+    item: &Value,
 ) -> Result<Saved, Stop>
-    ensures told { TellsBy saved_of (entering (region_of region.now) item (seen state.old)) result state.new }
+    ensures told { TellsBy saved_of (entering (region_of region.now) item.now (seen state.old)) result state.new }
     ensures above { OnOk result (1 < length (seen state.new).shared.levels) }
 {
     let Some(reached) = state.reached.checked_add(1) else {
         return Err(Stop::Memory);
     };
     state.reached = reached;
+    let item = item.try_clone(alloc)?;
     open_level(alloc, &mut state.store, region, item)?;
     let names = state.names.split(alloc, region.own.as_slice())?;
     let globals = state.globals.split(alloc, region.own_globals.as_slice())?;
@@ -69,6 +71,7 @@ fn open_level(alloc: Global, store: &mut Store, region: &Region, item: Value) ->
 }
 
 /// Ends the iteration that began last: its objects are dropped, and what was before it is put back.
+#[inline(never)]
 pub(crate) fn leave_iteration(
     alloc: Global,
     state: &mut State,
@@ -111,6 +114,7 @@ pub(crate) fn start_region(state: &mut State) -> Begun
 }
 
 /// Ends a region that was left so, and counts it with its items where it began outside of any iteration and ended by itself.
+#[inline(never)]
 pub(crate) fn finish_region(state: &mut State, begun: Begun, flow: &Flow) -> Result<(), Stop>
     ensures { Tells (finishing begun.outside begun.reached (flow_of flow.now) (seen state.old)) result state.new }
 {

@@ -30,6 +30,7 @@ pub(crate) fn is_within(cursor: &Cursor)
 }
 
 /// The consumers, with one more inside.
+#[inline(never)]
 fn inside<'a>(
     alloc: Global,
     top: Consumer<'a>,
@@ -58,6 +59,7 @@ impl<
     ) -> Result<Flow, Stop>,
 > Runner<'m, F> {
     /// A loop over a call of a generator, whose body gives its items to a consumer.
+    #[inline(never)]
     pub(crate) fn generate(
         &self,
         state: &mut State,
@@ -76,6 +78,7 @@ impl<
         self.generate_by(state, consumers, consumer, called, given.as_slice())
     }
 
+    #[inline(never)]
     fn generate_by(
         &self,
         state: &mut State,
@@ -101,6 +104,7 @@ impl<
     }
 
     /// Gives an item to the consumer round the body of a generator.
+    #[inline(never)]
     pub(crate) fn give(
         &self,
         state: &mut State,

@@ -5,7 +5,7 @@
 ghost use Rattle.std.specs.Prelude.{◌≡◌, ◌++◌, ◌∷◌, [], not, OnOk};
 ghost use Rattle.std.specs.List.{flat_map, filter};
 ghost use Rattle.source_trees.specs.declared.expression.Expr.{out-Expr};
-ghost use Rattle.source_meaning.specs.Bodies.{loop_names};
+ghost use Rattle.source_trees.specs.Names.{loop_names};
 ghost use Rattle.source_meaning.specs.Mentions as spec;
 ghost use Rattle.source_meaning.specs.Noted.{note_of, noted, notes_of_comparison, notes_of_arm, notes_of_for, notes_in_parallel};
 

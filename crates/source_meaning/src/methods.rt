@@ -8,20 +8,19 @@ ghost use Rattle.source_meaning.specs.Meaning.{turn_of};
 ghost use Rattle.codon_base.specs.Levels.{object_at};
 ghost use Rattle.source_meaning.specs.Kinds.{kind_of, found_method, told, called_on, goes_over_on};
 ghost use Rattle.source_meaning.specs.Iterations.{in_place};
-ghost use Rattle.source_meaning.specs.Loops.{Numbers};
 ghost use Rattle.source_meaning.specs.Operations as operations;
 ghost use Rattle.source_meaning.specs.Callees.{functions_in};
 ghost use Rattle.source_meaning.specs.Program.{function_named};
 ghost use Rattle.source_meaning.specs.Seen.{seen, Tells, TellsBy, TellsAtBy, TellsFlow};
+ghost use Rattle.source_meaning.specs.State.{Next};
 ghost use Rattle.source_meaning.specs.Steps.{iterable_of, looped, turns_from};
 ghost use Rattle.source_meaning.specs.Task.{Gathered};
 ghost use Rattle.source_meaning.specs.Tasks.{Nests, here, known_of, program_of};
 
 use crate::callee::function_named;
-use crate::cursor::{begun, next};
+use crate::cursor::next;
 use crate::flow::{End, Flow, ended, goes_on};
 use crate::iterable::{Cursor, Iterable};
-use crate::loops::is_within;
 use crate::objects::{allocate, append, ref_in};
 use crate::operations::list_method;
 use crate::prepared::{Called, KnownClass, Prepared};
@@ -77,6 +76,7 @@ fn method_of<'m>(
 }
 
 /// The method of an instance of that class.
+#[inline(never)]
 fn method_in<'m>(
     alloc: Global,
     program: &'m Prepared<'m>,
@@ -92,6 +92,7 @@ fn method_in<'m>(
 }
 
 /// What a loop goes over that a method of a list gives.
+#[inline(never)]
 fn list_items<'m>(
     alloc: Global,
     state: &mut State,
@@ -118,6 +119,7 @@ impl<
     ) -> Result<Flow, Stop>,
 > Runner<'m, F> {
     /// `v.name(given)`.
+    #[inline(never)]
     pub(crate) fn call_method(
         &self,
         state: &mut State,
@@ -137,6 +139,7 @@ impl<
     }
 
     /// `v.name(given)` of an instance of that class.
+    #[inline(never)]
     fn call_on(
         &self,
         state: &mut State,
@@ -155,6 +158,7 @@ impl<
     }
 
     /// What a loop goes over that `v.name(given)` gives.
+    #[inline(never)]
     pub(crate) fn iterable_method(
         &self,
         state: &mut State,
@@ -174,6 +178,7 @@ impl<
     }
 
     /// What a loop goes over that `v.name(given)` of an instance of that class gives.
+    #[inline(never)]
     fn goes_over_on(
         &self,
         state: &mut State,
@@ -195,15 +200,26 @@ impl<
     }
 
     /// Puts an item at the end of a list that is gathered.
-    pub(crate) fn append_to(&self, state: &mut State, list: &Value, v: Value) -> Result<Flow, Stop>
-        ensures { TellsFlow (spec.append_to (here self.now.program.now self.now.limit self.now.depth) list.now v (seen state.old)) result state.new }
+    #[inline(never)]
+    pub(crate) fn append_value(&self, state: &mut State, list: &Value, v: Value) -> Result<(), Stop>
+        ensures { TellsBy (λ _. Next) (spec.append_to (here self.now.program.now self.now.limit self.now.depth) list.now v (seen state.old)) result state.new }
     {
         let at = ref_in(self.alloc, state, list)?;
         append(self.alloc, state, at, v)?;
+        Ok(())
+    }
+
+    /// The same, as a turn that goes on.
+    #[inline(never)]
+    pub(crate) fn append_to(&self, state: &mut State, list: &Value, v: Value) -> Result<Flow, Stop>
+        ensures { TellsFlow (spec.append_to (here self.now.program.now self.now.limit self.now.depth) list.now v (seen state.old)) result state.new }
+    {
+        self.append_value(state, list, v)?;
         Ok(ended(End::Next))
     }
 
     /// A list of all that a loop goes over.
+    #[inline(never)]
     pub(crate) fn gathered(&self, state: &mut State, goes_over: Iterable<'m>) -> Result<Value, Stop>
         requires { Nests self.now.program.now self.now.limit self.now.depth (F.pre self.now.low) (F.post self.now.low) }
         ensures { Tells (spec.gathered (here self.now.program.now self.now.limit self.now.depth) (iterable_of goes_over.entry) (seen state.old)) result state.new }
@@ -213,6 +229,7 @@ impl<
         Ok(list)
     }
 
+    #[inline(never)]
     fn gather_into(
         &self,
         state: &mut State,
@@ -222,44 +239,14 @@ impl<
         requires { Nests self.now.program.now self.now.limit self.now.depth (F.pre self.now.low) (F.post self.now.low) }
         ensures { TellsFlow (looped (here self.now.program.now self.now.limit self.now.depth) [] (iterable_of goes_over.entry) (Gathered list.now) (seen state.old)) result state.new }
     {
-        match goes_over {
-            Iterable::Generated(called, given) => self.generate(
-                state,
-                &[],
-                Consumer::Gathered(list),
-                called,
-                given,
-            ),
-            Iterable::Items(container) => self.append_turns(
-                state,
-                list,
-                Cursor::Item(container, 0),
-            ),
-            Iterable::Numbers(start, stop, step) => self.append_numbers(
-                state, list, &start, &stop, &step,
-            ),
+        let mut cursor = Cursor::Ended;
+        match self.enter_loop(state, &[], Consumer::Gathered(list), goes_over, &mut cursor)? {
+            Some(flow) => Ok(flow),
+            None => self.append_turns(state, list, cursor),
         }
     }
 
-    fn append_numbers(
-        &self,
-        state: &mut State,
-        list: &Value,
-        start: &Value,
-        stop: &Value,
-        step: &Value,
-    ) -> Result<Flow, Stop>
-        ensures { TellsFlow (looped (here self.now.program.now self.now.limit self.now.depth) [] (Numbers start.now stop.now step.now) (Gathered list.now) (seen state.old)) result state.new }
-    {
-        match begun(self.alloc, state, start, stop, step) {
-            Ok(cursor) => {
-                is_within(&cursor);
-                self.append_turns(state, list, cursor)
-            }
-            Err(e) => Err(e),
-        }
-    }
-
+    #[inline(never)]
     fn append_turns(&self, state: &mut State, list: &Value, from: Cursor) -> Result<Flow, Stop>
         ensures { TellsFlow (turns_from (here self.now.program.now self.now.limit self.now.depth) (turn_of (here self.now.program.now self.now.limit self.now.depth) [] (Gathered list.now)) from (seen state.old)) result state.new }
     {

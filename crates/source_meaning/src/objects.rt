@@ -23,6 +23,7 @@ use value_operators::{Made, place_of};
 
 /// A new object on the last level of the heap.
 #[tactic(auto, unfolding(crate::specs::Outcome::bind, crate::specs::Outcome::pure, crate::specs::Outcome::stop, crate::specs::Outcome::look, crate::specs::Outcome::change_levels, crate::specs::Seen::seen))]
+#[inline(never)]
 pub(crate) fn allocate(state: &mut State, object: Object) -> Result<Value, Stop>
     ensures { Tells (spec.allocate object (seen state.old)) result state.new }
 {
@@ -44,6 +45,7 @@ pub(crate) fn settled(state: &mut State, made: Made) -> Result<Value, Stop>
 }
 
 /// `container[index]`.
+#[inline(never)]
 pub(crate) fn item_at(
     alloc: Global,
     state: &State,
@@ -140,6 +142,7 @@ fn found_in_text(
 }
 
 /// `v[from:to]`.
+#[inline(never)]
 pub(crate) fn slice(
     alloc: Global,
     state: &mut State,
@@ -187,6 +190,7 @@ fn list_part(
 }
 
 /// Puts an item at the end of a list.
+#[inline(never)]
 pub(crate) fn append(alloc: Global, state: &mut State, at: Ref, v: Value) -> Result<(), Stop>
     ensures { Tells (spec.append at v (seen state.old)) result state.new }
 {
@@ -198,6 +202,7 @@ pub(crate) fn append(alloc: Global, state: &mut State, at: Ref, v: Value) -> Res
 }
 
 /// `v.name`.
+#[inline(never)]
 pub(crate) fn field(
     alloc: Global,
     state: &State,
@@ -236,6 +241,7 @@ pub(crate) fn set_field(
 }
 
 /// The address in a value.
+#[inline(never)]
 pub(crate) fn ref_in(alloc: Global, state: &State, v: &Value) -> Result<Ref, Stop>
     ensures { Tells (spec.ref_in (out-Value v.now) (seen state.now)) result state.now }
 {

@@ -27,6 +27,7 @@ use value_operators as operators;
 use value_operators::Made;
 
 /// `v op w`.
+#[inline(never)]
 pub(crate) fn binary(
     alloc: Global,
     state: &mut State,
@@ -65,6 +66,7 @@ fn binary_made(
 }
 
 /// `op v`.
+#[inline(never)]
 pub(crate) fn unary(alloc: Global, state: &mut State, by: UnaryOp, v: &Value) -> Result<Value, Stop>
     ensures { Tells (objects.operate in_place (λ sight. spec.unary_made by (out-Value v.now)) (seen state.old)) result state.new }
 {
@@ -83,6 +85,7 @@ fn unary_made(alloc: Global, by: UnaryOp, v: &Value) -> Result<Made, Memory>
 }
 
 /// `v op w` for a comparison.
+#[inline(never)]
 pub(crate) fn compared(
     alloc: Global,
     state: &mut State,
@@ -118,6 +121,7 @@ fn compared_made(
 }
 
 /// The truth of a value, as conditions take it.
+#[inline(never)]
 pub(crate) fn truth(alloc: Global, state: &State, v: &Value) -> Result<bool, Stop>
     ensures { Tells (objects.truth in_place v.now (seen state.now)) result state.now }
 {
@@ -128,6 +132,7 @@ pub(crate) fn truth(alloc: Global, state: &State, v: &Value) -> Result<bool, Sto
 }
 
 /// A builtin on its arguments.
+#[inline(never)]
 pub(crate) fn builtin(
     alloc: Global,
     state: &mut State,
@@ -206,6 +211,7 @@ fn wrong_made(alloc: Global) -> Result<Made, Memory>
 }
 
 /// A method of a list.
+#[inline(never)]
 pub(crate) fn list_method(
     alloc: Global,
     state: &mut State,

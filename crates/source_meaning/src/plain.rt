@@ -11,7 +11,6 @@ ghost use Rattle.source_meaning.specs.Scopes.{scope_of};
 ghost use Rattle.source_meaning.specs.Seen.{seen, TellsFlow};
 ghost use Rattle.source_meaning.specs.State.{TooDeep};
 ghost use Rattle.source_meaning.specs.Statements.{statements};
-ghost use Rattle.source_meaning.specs.Task.{Body};
 ghost use Rattle.source_meaning.specs.Tasks.{Nests, here, lower, consumer_of, consumers_of, task_of, program_of};
 
 use crate::flow::{End, Flow, ended, is_next};
@@ -21,9 +20,8 @@ use crate::runner::Runner;
 use crate::scope::Scope;
 use crate::state::{Names, State, Stop, Store};
 use crate::task::{Consumer, Task};
-use crate::variables::set_loop_names;
 use codon_base::{Bytes, Ending, Heap, Memory, Spelling, Value};
-use source_trees::{Item, LoopNames, Module, Stmt, prelude};
+use source_trees::{Item, Module, prelude};
 use sqlite_items::Items;
 use std::alloc::Global;
 
@@ -55,6 +53,7 @@ impl<
     ) -> Result<Flow, Stop>,
 > Runner<'m, F> {
     /// A body that is entered, or a turn.
+    #[inline(never)]
     fn task(
         &self,
         state: &mut State,
@@ -71,6 +70,7 @@ impl<
     }
 
     /// What a consumer does with an item.
+    #[inline(never)]
     fn consume(
         &self,
         state: &mut State,
@@ -82,7 +82,7 @@ impl<
         ensures { TellsFlow (turn_of (here self.now.program.now self.now.limit self.now.depth) (consumers_of consumers.now) (consumer_of consumer.entry) v (seen state.old)) result state.new }
     {
         match consumer {
-            Consumer::Body(scope, names, body) => self.loop_turn(
+            Consumer::Body(scope, names, body) => self.body_turn(
                 state, consumers, &scope, names, body, v,
             ),
             Consumer::Parallel(region, scope, names, body) => self.parallel_turn(
@@ -96,23 +96,6 @@ impl<
                 state, consumers, &scope, region, stages, place, v,
             ),
         }
-    }
-
-    /// A turn of a loop over a generator.
-    fn loop_turn(
-        &self,
-        state: &mut State,
-        consumers: &[Consumer<'_>],
-        scope: &Scope<'_>,
-        names: &LoopNames,
-        body: &Items<Stmt>,
-        v: Value,
-    ) -> Result<Flow, Stop>
-        requires { Nests self.now.program.now self.now.limit self.now.depth (F.pre self.now.low) (F.post self.now.low) }
-        ensures { TellsFlow (turn_of (here self.now.program.now self.now.limit self.now.depth) (consumers_of consumers.now) (Body (scope_of scope.now) names.now body.now) v (seen state.old)) result state.new }
-    {
-        set_loop_names(self.alloc, state, scope, names, v)?;
-        self.block(state, consumers, scope, body)
     }
 
     /// What an item of a module does when the module runs.
@@ -144,6 +127,7 @@ impl<
 }
 
 /// Runs a task in which at most `depth` tasks are run one inside the other.
+#[inline(never)]
 fn run_to(
     alloc: Global,
     program: &Prepared<'_>,

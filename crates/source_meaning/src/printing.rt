@@ -118,6 +118,7 @@ fn followed(
     Ok(piece)
 }
 
+#[inline(never)]
 fn print(alloc: Global, state: &mut State, vs: &[Value], ends: Ends) -> Result<(), Stop>
     ensures { Tells (spec.print in_place vs.now (ends_of ends) (seen state.old)) result state.new }
 {
@@ -140,6 +141,7 @@ impl<
         Task<'_>,
     ) -> Result<Flow, Stop>,
 > Runner<'m, F> {
+    #[inline(never)]
     fn ends(
         &self,
         state: &mut State,
@@ -182,6 +184,7 @@ impl<
     }
 
     /// `print(..)` after the values that were piped into it.
+    #[inline(never)]
     pub(crate) fn print_after(
         &self,
         state: &mut State,

@@ -11,6 +11,7 @@ use codon_base::{Value, Values};
 use std::alloc::Global;
 
 /// The start, stop and step of a range.
+#[inline(never)]
 pub(crate) fn range_of<'m>(alloc: Global, given: Values) -> Result<Iterable<'m>, Stop>
     ensures { (s : _) → TellsAtBy iterable_of (spec.range_of given s) result s }
 {

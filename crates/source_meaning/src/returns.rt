@@ -15,6 +15,7 @@ use sqlite_items::Items;
 use std::alloc::Global;
 
 /// What a function gives whose body ended so.
+#[inline(never)]
 pub(crate) fn result_of(alloc: Global, known: &Known<'_>, flow: Flow) -> Result<Value, Stop>
     ensures { (s : _) → TellsAt (spec.result known.now.function.now (flow_of flow) s) result s }
 {
@@ -53,6 +54,7 @@ impl<'m> Called<'m> {
 }
 
 /// As many values as there are fields, none of which is set.
+#[inline(never)]
 pub(crate) fn unset_fields(alloc: Global, fields: &[Spelling]) -> Result<Values, Memory>
     ensures { IfOk result (λ vs. vs ≡ map (λ name. value.Unset) fields.now) }
 {
@@ -64,6 +66,7 @@ pub(crate) fn unset_fields(alloc: Global, fields: &[Spelling]) -> Result<Values,
 }
 
 /// The values with one more before them.
+#[inline(never)]
 pub(crate) fn with_first(alloc: Global, first: Value, rest: Values) -> Result<Values, Memory>
     ensures { IfOk result (λ all. all ≡ first ∷ rest) }
 {

@@ -30,6 +30,7 @@ impl<
     ) -> Result<Flow, Stop>,
 > Runner<'m, F> {
     /// Runs a task one level deeper.
+    #[inline(never)]
     pub(crate) fn deeper(
         &self,
         state: &mut State,

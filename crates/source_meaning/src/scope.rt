@@ -61,6 +61,7 @@ impl<'a> Scope<'a> {
 }
 
 /// The names of comprehensions, with those of one more inside.
+#[inline(never)]
 pub(crate) fn within<'a>(
     alloc: Global,
     top: Inner<'a>,

@@ -28,6 +28,7 @@ use sqlite_items::Items;
 use std::alloc::Global;
 
 /// The kind of fault of that name.
+#[inline(never)]
 pub(crate) fn fault_named(name: &Spelling) -> Option<FaultKind>
     ensures { result ≡ spec.fault_named name.now }
 {
@@ -236,6 +237,7 @@ impl<
     }
 
     /// Ends the run by a fault of that kind.
+    #[inline(never)]
     pub(crate) fn raise(
         &self,
         state: &mut State,
@@ -256,6 +258,7 @@ impl<
     }
 
     /// `return e`.
+    #[inline(never)]
     pub(crate) fn returned(
         &self,
         state: &mut State,
@@ -275,6 +278,7 @@ impl<
     }
 
     /// Whether a turn of `while` is made, for which a tick is taken.
+    #[inline(never)]
     pub(crate) fn while_next(
         &self,
         state: &mut State,
@@ -292,6 +296,7 @@ impl<
     }
 
     /// `yield e`.
+    #[inline(never)]
     pub(crate) fn give_item(
         &self,
         state: &mut State,
@@ -307,6 +312,7 @@ impl<
     }
 
     /// `assert e, text`.
+    #[inline(never)]
     pub(crate) fn asserted(
         &self,
         state: &mut State,
@@ -325,6 +331,7 @@ impl<
     }
 
     /// `name: annotation = e`.
+    #[inline(never)]
     pub(crate) fn annotation(
         &self,
         state: &mut State,
@@ -340,6 +347,7 @@ impl<
     }
 
     /// `targets = e`.
+    #[inline(never)]
     pub(crate) fn assignment(
         &self,
         state: &mut State,
@@ -356,6 +364,7 @@ impl<
     }
 
     /// `target op= e`.
+    #[inline(never)]
     pub(crate) fn augmented(
         &self,
         state: &mut State,
@@ -372,6 +381,7 @@ impl<
     }
 
     /// An expression whose value is dropped.
+    #[inline(never)]
     pub(crate) fn evaluated(
         &self,
         state: &mut State,
@@ -386,6 +396,7 @@ impl<
     }
 
     /// `print(..)`.
+    #[inline(never)]
     pub(crate) fn print_statement(
         &self,
         state: &mut State,

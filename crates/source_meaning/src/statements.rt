@@ -1,28 +1,26 @@
 #![tactic(auto, unfolding(crate::specs::Outcome::bind, crate::specs::Outcome::pure, crate::specs::Outcome::stop))]
 
 ghost use Rattle.source_meaning.specs.Loops as spec;
-ghost use Rattle.source_meaning.specs.Loops.{Numbers};
+ghost use Rattle.source_meaning.specs.Entered.{TellsEntered};
 ghost use Rattle.source_meaning.specs.Forms.{IsIf};
 ghost use Rattle.source_meaning.specs.Meaning.{turn_of};
 ghost use Rattle.source_meaning.specs.Outcome.{bind, pure};
-ghost use Rattle.source_meaning.specs.Regions.{consumer_in};
 ghost use Rattle.source_meaning.specs.Scopes.{scope_of};
 ghost use Rattle.source_meaning.specs.Seen.{seen, TellsFlow};
 ghost use Rattle.source_meaning.specs.Statements.{stmt, statements};
-ghost use Rattle.source_meaning.specs.Steps.{iterable_of, looped, turns_from, chosen, while_of, for_of};
+ghost use Rattle.source_meaning.specs.Steps.{turns_from, begun_for, chosen, while_of, for_of};
 ghost use Rattle.source_meaning.specs.Task.{Body};
-ghost use Rattle.source_meaning.specs.Tasks.{Nests, here, consumers_of, region_at};
+ghost use Rattle.source_meaning.specs.Tasks.{Nests, here, consumers_of};
 
-use crate::cursor::{begun, next};
+use crate::entering::step;
 use crate::flow::{End, Flow, after_loop, ended, goes_on, is_next};
-use crate::iterable::{Cursor, Iterable};
-use crate::loops::is_within;
+use crate::iterable::Cursor;
 use crate::prepared::Prepared;
 use crate::runner::Runner;
 use crate::scope::Scope;
 use crate::simple::fault_named;
 use crate::state::{State, Stop};
-use crate::task::{Consumer, Region, Task};
+use crate::task::{Consumer, Task};
 use crate::variables::{left, set_loop_names};
 use codon_base::Value;
 use source_trees::{Arm, Expr, For, LoopNames, Stmt};
@@ -42,6 +40,7 @@ impl<
     ) -> Result<Flow, Stop>,
 > Runner<'m, F> {
     #[cycle(statement)]
+    #[inline(never)]
     pub(crate) fn block(
         &self,
         state: &mut State,
@@ -62,6 +61,7 @@ impl<
     }
 
     #[cycle(statement)]
+    #[inline(always)]
     pub(crate) fn statement(
         &self,
         state: &mut State,
@@ -101,6 +101,7 @@ impl<
     }
 
     #[cycle(statement)]
+    #[inline(never)]
     fn choose(
         &self,
         state: &mut State,
@@ -123,6 +124,7 @@ impl<
     }
 
     #[cycle(statement)]
+    #[inline(never)]
     fn while_loop(
         &self,
         state: &mut State,
@@ -150,7 +152,9 @@ impl<
         }
     }
 
+    /// A loop in turn.
     #[cycle(statement)]
+    #[inline(never)]
     fn for_loop(
         &self,
         state: &mut State,
@@ -161,136 +165,73 @@ impl<
         requires { Nests self.now.program.now self.now.limit self.now.depth (F.pre self.now.low) (F.post self.now.low) }
         ensures { TellsFlow (for_of (here self.now.program.now self.now.limit self.now.depth) (consumers_of consumers.now) (scope_of scope.now) l.now (seen state.old)) result state.new }
     {
-        let goes_over = self.iterable(state, scope, &l.iterable)?;
-        let flow = self.loop_body(state, consumers, scope, None, l, goes_over)?;
-        Ok(after_loop(flow))
+        let mut cursor = Cursor::Ended;
+        let flow = self.for_turns(state, consumers, scope, l, &mut cursor)?;
+        Ok(flow)
     }
 
-    /// A loop in turn, or in a region that runs.
+    /// A loop in turn from its beginning on, whose cursor stands outside: what owns a value holds more of the native stack.
     #[cycle(statement)]
-    pub(crate) fn loop_body(
+    #[inline(never)]
+    fn for_turns(
         &self,
         state: &mut State,
         consumers: &[Consumer<'_>],
         scope: &Scope<'_>,
-        region: Option<&Region>,
         l: &For,
-        goes_over: Iterable<'m>,
+        cursor: &mut Cursor,
     ) -> Result<Flow, Stop>
         requires { Nests self.now.program.now self.now.limit self.now.depth (F.pre self.now.low) (F.post self.now.low) }
-        ensures { TellsFlow (looped (here self.now.program.now self.now.limit self.now.depth) (consumers_of consumers.now) (iterable_of goes_over.entry) (consumer_in (region_at region.entry) (scope_of scope.now) l.now) (seen state.old)) result state.new }
+        ensures { TellsFlow (for_of (here self.now.program.now self.now.limit self.now.depth) (consumers_of consumers.now) (scope_of scope.now) l.now (seen state.old)) result state.new }
     {
-        match goes_over {
-            Iterable::Generated(called, given) => match region {
-                Some(region) => self.generate(
-                    state,
-                    consumers,
-                    Consumer::Parallel(region, *scope, &l.names, &l.body),
-                    called,
-                    given,
-                ),
-                None => self.generate(
-                    state,
-                    consumers,
-                    Consumer::Body(*scope, &l.names, &l.body),
-                    called,
-                    given,
-                ),
-            },
-            Iterable::Items(container) => self.turns(
-                state,
-                consumers,
-                scope,
-                region,
-                l,
-                Cursor::Item(container, 0),
-            ),
-            Iterable::Numbers(start, stop, step) => self.range_turns(
-                state, consumers, scope, region, l, &start, &stop, &step,
-            ),
+        let entered = self.enter_for(state, consumers, scope, l, cursor)?;
+        match entered {
+            Some(flow) => return Ok(after_loop(flow)),
+            None => {}
         }
-    }
-
-    /// The turns of a loop over a range.
-    #[cycle(statement)]
-    fn range_turns(
-        &self,
-        state: &mut State,
-        consumers: &[Consumer<'_>],
-        scope: &Scope<'_>,
-        region: Option<&Region>,
-        l: &For,
-        start: &Value,
-        stop: &Value,
-        step: &Value,
-    ) -> Result<Flow, Stop>
-        requires { Nests self.now.program.now self.now.limit self.now.depth (F.pre self.now.low) (F.post self.now.low) }
-        ensures { TellsFlow (looped (here self.now.program.now self.now.limit self.now.depth) (consumers_of consumers.now) (Numbers start.now stop.now step.now) (consumer_in (region_at region.entry) (scope_of scope.now) l.now) (seen state.old)) result state.new }
-    {
-        match begun(self.alloc, state, start, stop, step) {
-            Ok(cursor) => {
-                is_within(&cursor);
-                self.turns(state, consumers, scope, region, l, cursor)
-            }
-            Err(e) => Err(e),
-        }
-    }
-
-    /// The turns of a loop in place.
-    #[cycle(statement)]
-    fn turns(
-        &self,
-        state: &mut State,
-        consumers: &[Consumer<'_>],
-        scope: &Scope<'_>,
-        region: Option<&Region>,
-        l: &For,
-        from: Cursor,
-    ) -> Result<Flow, Stop>
-        requires { Nests self.now.program.now self.now.limit self.now.depth (F.pre self.now.low) (F.post self.now.low) }
-        ensures { TellsFlow (turns_from (here self.now.program.now self.now.limit self.now.depth) (turn_of (here self.now.program.now self.now.limit self.now.depth) (consumers_of consumers.now) (consumer_in (region_at region.entry) (scope_of scope.now) l.now)) from (seen state.old)) result state.new }
-    {
         let mut left = left(state, self.limit);
-        let mut cursor = from;
         'turns: loop {
-            let Some(item) = next(self.alloc, state, self.limit, cursor)? else {
+            let is_there = step(self.alloc, state, self.limit, scope, &l.names, cursor)?;
+            if !is_there {
                 return Ok(ended(End::Next));
-            };
-            let flow = self.a_turn(state, consumers, scope, region, l, item.0)?;
+            }
+            let flow = self.block(state, consumers, scope, &l.body)?;
             if !goes_on(&flow) {
-                return Ok(flow);
+                return Ok(after_loop(flow));
             }
             if left == 0 {
                 return Err(Stop::OutOfFuel);
             }
             left -= 1;
-            cursor = item.1;
         }
     }
 
-    #[cycle(statement)]
-    fn a_turn(
+    /// The beginning of a loop in turn. Where a generator gives the items, all turns are made.
+    #[inline(never)]
+    fn enter_for(
         &self,
         state: &mut State,
         consumers: &[Consumer<'_>],
         scope: &Scope<'_>,
-        region: Option<&Region>,
         l: &For,
-        v: Value,
-    ) -> Result<Flow, Stop>
+        cursor: &mut Cursor,
+    ) -> Result<Option<Flow>, Stop>
         requires { Nests self.now.program.now self.now.limit self.now.depth (F.pre self.now.low) (F.post self.now.low) }
-        ensures { TellsFlow (turn_of (here self.now.program.now self.now.limit self.now.depth) (consumers_of consumers.now) (consumer_in (region_at region.entry) (scope_of scope.now) l.now) v (seen state.old)) result state.new }
+        ensures { TellsEntered (begun_for (here self.now.program.now self.now.limit self.now.depth) (consumers_of consumers.now) (scope_of scope.now) l.now (seen state.old)) (turns_from (here self.now.program.now self.now.limit self.now.depth) (turn_of (here self.now.program.now self.now.limit self.now.depth) (consumers_of consumers.now) (Body (scope_of scope.now) l.now.names l.now.body))) result cursor.new state.new }
     {
-        match region {
-            Some(region) => self.parallel_turn(
-                state, consumers, region, scope, &l.names, &l.body, v,
-            ),
-            None => self.body_turn(state, consumers, scope, &l.names, &l.body, v),
-        }
+        let goes_over = self.iterable(state, scope, &l.iterable)?;
+        self.enter_loop(
+            state,
+            consumers,
+            Consumer::Body(*scope, &l.names, &l.body),
+            goes_over,
+            cursor,
+        )
     }
 
     /// A turn of a loop.
     #[cycle(statement)]
+    #[inline(always)]
     pub(crate) fn body_turn(
         &self,
         state: &mut State,

@@ -1,5 +1,6 @@
 mod build;
 mod pipelines;
+mod stack;
 mod statements;
 
 use crate::{PlainEnd, run_plain};

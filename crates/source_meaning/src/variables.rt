@@ -61,6 +61,7 @@ pub(crate) fn set_name(
 
 /// The value of a name, which is a fault where it has none.
 #[tactic(auto, unfolding(crate::specs::Outcome::bind, crate::specs::Outcome::pure, crate::specs::Outcome::stop))]
+#[inline(never)]
 pub(crate) fn read_name(
     alloc: Global,
     state: &mut State,
@@ -76,6 +77,7 @@ pub(crate) fn read_name(
 }
 
 /// The stop by a fault, or for want of memory.
+#[inline(never)]
 pub(crate) fn fault(alloc: Global, kind: FaultKind, text: &[u8]) -> Stop
     requires { IsTrue (list_all (λ b. nat_lt b 128) text.now) }
     ensures { IsFault result kind text.now }
@@ -87,6 +89,7 @@ pub(crate) fn fault(alloc: Global, kind: FaultKind, text: &[u8]) -> Stop
 }
 
 /// The stop where the rules of the language give no value.
+#[inline(never)]
 pub(crate) fn wrong(alloc: Global) -> Stop
     ensures { IsFault result kind.Runtime (codes "wrong kind") }
 {
@@ -95,6 +98,7 @@ pub(crate) fn wrong(alloc: Global) -> Stop
 
 /// The names of a loop or a comprehension take an item.
 #[tactic(auto, unfolding(crate::specs::Outcome::bind, crate::specs::Outcome::pure, crate::specs::Outcome::stop))]
+#[inline(never)]
 pub(crate) fn set_loop_names(
     alloc: Global,
     state: &mut State,

@@ -3,3 +3,4 @@ pub mod Nodes
 pub mod Heights
 pub mod Bare
 pub mod Prelude
+pub mod Names

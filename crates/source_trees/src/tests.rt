@@ -81,7 +81,23 @@ fn operators_count_once(rt: HostRuntime) -> Result<(), Fail> {
 fn a_chain_is_flat(rt: HostRuntime) -> Result<(), Fail> {
     let alloc = rt.alloc();
     let and = pair(alloc, leaf(alloc)?, bracketed(alloc, 1)?)?;
-    check_expr(&rt, alloc, Expr::And(here(), and), 3)
+    check_expr(&rt, alloc, Expr::And(here(), and), 3)?;
+    let or = pair(alloc, bracketed(alloc, 2)?, leaf(alloc)?)?;
+    check_expr(&rt, alloc, Expr::Or(here(), or), 4)
+}
+
+#[test]
+fn the_highest_part_of_a_conditional_counts(rt: HostRuntime) -> Result<(), Fail> {
+    let alloc = rt.alloc();
+    let value = Boxed::new(alloc, leaf(alloc)?)?;
+    let condition = Boxed::new(alloc, bracketed(alloc, 1)?)?;
+    let other = Boxed::new(alloc, bracketed(alloc, 2)?)?;
+    check_expr(
+        &rt,
+        alloc,
+        Expr::Conditional(here(), value, condition, other),
+        4,
+    )
 }
 
 #[test]
@@ -233,6 +249,22 @@ fn an_arm_is_no_node(rt: HostRuntime) -> Result<(), Fail> {
     check_stmt(&rt, alloc, only, 2)
 }
 
+/// A condition with a statement below it.
+fn arm(alloc: Global, brackets: u32) -> Result<Arm, Fail> {
+    Ok(Arm {
+        condition: leaf(alloc)?,
+        body: single(alloc, Stmt::Return(here(), Some(bracketed(alloc, brackets)?)))?,
+    })
+}
+
+#[test]
+fn the_highest_arm_counts(rt: HostRuntime) -> Result<(), Fail> {
+    let alloc = rt.alloc();
+    let arms = pair(alloc, arm(alloc, 0)?, arm(alloc, 2)?)?;
+    let otherwise = single(alloc, Stmt::Pass(here()))?;
+    check_stmt(&rt, alloc, Stmt::If(here(), arms, otherwise), 5)
+}
+
 #[test]
 fn loops(rt: HostRuntime) -> Result<(), Fail> {
     let alloc = rt.alloc();
@@ -281,6 +313,35 @@ fn classes(rt: HostRuntime) -> Result<(), Fail> {
     };
     assert_eq!(rt; class.height(), 2);
     assert_eq!(rt; class.try_clone(alloc)?.height(), 2);
+    Ok(())
+}
+
+/// A method of `self` whose body is so many brackets round a name.
+fn method(alloc: Global, brackets: u32) -> Result<Function, Fail> {
+    Ok(Function {
+        node: here(),
+        name: name(alloc, here(), b"m")?,
+        params: single(alloc, parameter(alloc, here(), b"self", None)?)?,
+        result: Some(Annotation::Int(here())),
+        body: single(alloc, Stmt::Return(here(), Some(bracketed(alloc, brackets)?)))?,
+    })
+}
+
+#[test]
+fn members_of_a_class(rt: HostRuntime) -> Result<(), Fail> {
+    let alloc = rt.alloc();
+    let field = Member::Field(
+        here(),
+        name(alloc, here(), b"f")?,
+        list_of_int(alloc, here(), here())?,
+    );
+    let class = Class {
+        node: here(),
+        name: name(alloc, here(), b"C")?,
+        members: pair(alloc, field, Member::Method(method(alloc, 2)?))?,
+    };
+    assert_eq!(rt; class.height(), 6);
+    assert_eq!(rt; class.try_clone(alloc)?.height(), 6);
     Ok(())
 }
 

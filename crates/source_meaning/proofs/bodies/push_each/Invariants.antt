@@ -1,6 +1,6 @@
 use Rattle.std.proofs.Common.{◌≡◌, ◌++◌, drop}
 use Rattle.std.specs.List.{flat_map}
-use Rattle.source_meaning.specs.Bodies.{target_names}
+use Rattle.source_trees.specs.Names.{target_names}
 use Rattle.source_meaning.proofs.bodies.push_each.Given as goal
 
 abbrev pub invariant-all : goal.invariant-all

@@ -1,19 +1,18 @@
-use Rattle.std.proofs.Common.{◌≡◌, ◌+◌, ◌++◌, ◌∷◌, [], List, drop, rules, arith, ap, sym, ◌∙◌, subst}
+use Rattle.std.proofs.Common.{◌≡◌, ◌+◌, ◌++◌, ◌∷◌, [], List, drop, rules, arith, ap, sym, ◌∙◌, subst, ◌≢◌, ℕ, suc, ◌-◌, Bool, true, false, Option, Some, None, refl, Box, Global}
 use Rattle.std.proofs.lemmas.Grind.{common_steps}
 use Rattle.source_meaning.specs.Expressions as spec
 use Rattle.std.specs.Borrow.{Bor}
-use Rattle.source_meaning.specs.State.{Spelling, Names, State, Flow}
+use Rattle.source_meaning.specs.State.{Spelling, Names, State, Flow, Next}
 use Rattle.source_meaning.specs.Lists as lists
 use Rattle.source_meaning.specs.Loops as loops
-use Rattle.source_meaning.specs.Outcome.{Outcome, Gives, and_then, bind, pure}
+use Rattle.source_meaning.specs.Outcome.{Outcome, Gives, and_then, bind, pure, Stops, Run}
 use Rattle.codon_base.specs.declared.object.Object.TheVariants.{List as Listed}
 use Rattle.source_meaning.specs.Objects.{allocate}
 use Rattle.source_meaning.specs.Frames.{with_names}
 use Rattle.source_meaning.specs.Iterations.{in_place}
 use Rattle.source_meaning.specs.Cursors.{next_by}
-use Rattle.source_meaning.specs.Meaning.{turn_of}
+use Rattle.source_meaning.specs.Meaning.{turn_of, condition_of}
 use Rattle.source_meaning.specs.Steps.{iterable_of, looped}
-use Rattle.source_meaning.specs.Lists.{comprehended_in}
 use Rattle.source_meaning.specs.Task.{Comprehension}
 use Rattle.source_meaning.specs.declared.iterable.Iterable.{Iterable}
 use Rattle.source_meaning.specs.Seen.{seen, flow_of, why_of, Tells, TellsBy, TellsFlow}
@@ -22,12 +21,20 @@ use Rattle.source_meaning.specs.Tasks.{here}
 use Rattle.source_meaning.proofs.Parts.{exprs_begin, some_next, some_end, all_next, all_end, chain_more}
 use Rattle.source_meaning.proofs.Equations.{expr_Name, expr_Number, expr_Text, expr_True, expr_False, expr_None, expr_Bracketed, expr_Tuple, expr_List, expr_Conditional, expr_Or, expr_And, expr_Not, expr_Unary, expr_Binary, expr_MethodCall, expr_Index, expr_Comprehension, expr_Compare, expr_Call, expr_Slice, expr_Field, iterable_Call, iterable_MethodCall, iterable_other}
 use Rattle.source_meaning.proofs.Turns.{loop_begins, turn_next}
-use Rattle.source_meaning.proofs.Over.{over_items, over_numbers, over_none}
-use Rattle.source_meaning.proofs.Comprehensions.{inner_locals, comprehension_is, comprehension_stops}
+use Rattle.source_meaning.proofs.Gathering.{inner_scope, filling_begins, body, is_passed, stepped_on, ended_same, item_found, condition_found, comprehension_found}
 use Rattle.codon_base.specs.declared.value.Value.{Value}
 use Rattle.source_meaning.specs.Collected.{collect}
 use Rattle.source_meaning.proofs.Rest.{after, collect_next, collect_end}
+use Rattle.source_trees.specs.Names.{loop_names}
+use Rattle.source_trees.specs.declared.expression.Expr.{Expr}
+use Rattle.source_meaning.specs.declared.state.State as code
+use Rattle.source_meaning.specs.declared.scope.Inner.{Inner}
+use Rattle.source_meaning.specs.declared.comprehensions.Gathering.{Gathering}
+use Rattle.source_meaning.specs.Entered.{stepped}
+use Rattle.source_meaning.specs.Gathered.{HasNames, filling, turns_of, ended, TellsGathering}
+use Rattle.source_meaning.proofs.Stepped.{body_next}
 use Rattle.source_meaning.proofs.runner.Runner.+expression.Goals as goal
+use Rattle.source_meaning.proofs.runner.Runner.+expression.Goals.{fill-then-branch+in_ok-append_found, fill-else-branch}
 
 pub exprs-items-init : goal.exprs-items-init
 exprs-items-init g t c =
@@ -78,36 +85,6 @@ pub all_true-returns : goal.all_true-returns
 all_true-returns g t c =
     let done = all_end (here c.args.self.now.program.now c.args.self.now.limit c.args.self.now.depth) (scope_of c.args.scope.now) c.args.operands.now c.operands.e-index (seen c.operands.state) c.operands-test.false in
     grind (arith, common_steps, done)
-
-pub gather_turns-turns-init : goal.gather_turns-turns-init
-gather_turns-turns-init g t c = loop_begins (next_by in_place c.args.self.now.limit) (turn_of (here c.args.self.now.program.now c.args.self.now.limit c.args.self.now.depth) [] (Comprehension (scope_of c.args.inner.now) c.args.names.now c.args.condition.now c.args.gathered.now c.args.list.now)) c.args.self.now.limit c.args.from (seen c.args.state.now) c.left-left.result c.left-left.ensures
-
-pub gather_turns-turns-preserved-else-left-eq0 : goal.gather_turns-turns-preserved-else-left-eq0
-gather_turns-turns-preserved-else-left-eq0 g t c = c.turns.invariant ∙ turn_next (next_by in_place c.args.self.now.limit) (turn_of (here c.args.self.now.program.now c.args.self.now.limit c.args.self.now.depth) [] (Comprehension (scope_of c.args.inner.now) c.args.names.now c.args.condition.now c.args.gathered.now c.args.list.now)) c.turns.left c.turns.cursor (seen c.turns.state) (seen c.next.new.state) (seen c.turn.new.state) c.in-Some.item (flow_of c.in_ok-flow.flow) (rw c.in-Some.is at c.in_ok-item.ensures) c.in_ok-flow.ensures (sym c.goes_on.ensures ∙ c.if-not-goes_on.false) (omega arith)
-
-pub gather_turns-turns-preserved-else-left-eq0-2 : goal.gather_turns-turns-preserved-else-left-eq0-2
-gather_turns-turns-preserved-else-left-eq0-2 g t c = c.turns.invariant ∙ turn_next (next_by in_place c.args.self.now.limit) (turn_of (here c.args.self.now.program.now c.args.self.now.limit c.args.self.now.depth) [] (Comprehension (scope_of c.args.inner.now) c.args.names.now c.args.condition.now c.args.gathered.now c.args.list.now)) c.turns.left c.turns.cursor (seen c.turns.state) (seen c.next.new.state) (seen c.turn.new.state) c.in-Some.item (flow_of c.in_ok-flow.flow) (rw c.in-Some.is at c.in_ok-item.ensures) c.in_ok-flow.ensures (sym c.goes_on.ensures ∙ c.if-not-goes_on.false) (omega arith)
-
-pub gather_turns-turns-preserved-else-left-eq0-3 : goal.gather_turns-turns-preserved-else-left-eq0-3
-gather_turns-turns-preserved-else-left-eq0-3 g t c = c.turns.invariant ∙ turn_next (next_by in_place c.args.self.now.limit) (turn_of (here c.args.self.now.program.now c.args.self.now.limit c.args.self.now.depth) [] (Comprehension (scope_of c.args.inner.now) c.args.names.now c.args.condition.now c.args.gathered.now c.args.list.now)) c.turns.left c.turns.cursor (seen c.turns.state) (seen c.next.new.state) (seen c.turn.new.state) c.in-Some.item (flow_of c.in_ok-flow.flow) (rw c.in-Some.is at c.in_ok-item.ensures) c.in_ok-flow.ensures (sym c.goes_on.ensures ∙ c.if-not-goes_on.false) (omega arith)
-
-pub gather_turns-turns-preserved : goal.gather_turns-turns-preserved
-gather_turns-turns-preserved g t c = c.turns.invariant ∙ turn_next (next_by in_place c.args.self.now.limit) (turn_of (here c.args.self.now.program.now c.args.self.now.limit c.args.self.now.depth) [] (Comprehension (scope_of c.args.inner.now) c.args.names.now c.args.condition.now c.args.gathered.now c.args.list.now)) c.turns.left c.turns.cursor (seen c.turns.state) (seen c.next.new.state) (seen c.turn.new.state) c.in-Some.item (flow_of c.in_ok-flow.flow) (rw c.in-Some.is at c.in_ok-item.ensures) c.in_ok-flow.ensures (sym c.goes_on.ensures ∙ c.if-not-goes_on.false) (omega arith)
-
-pub gather-returns-in-Items : goal.gather-returns-in-Items
-gather-returns-in-Items g t c =
-    subst (λ (o : Outcome Flow). TellsFlow o c.gather_turns.result c.gather_turns.new.state)
-    (sym (ap (λ (i : Iterable). looped (here c.args.self.now.program.now c.args.self.now.limit c.args.self.now.depth) [] (iterable_of i) (Comprehension (scope_of c.args.inner.now) c.args.names.now c.args.condition.now c.args.item.now c.args.list.now) (seen c.args.state.now)) c.in-Items.is ∙ over_items (here c.args.self.now.program.now c.args.self.now.limit c.args.self.now.depth) [] (Comprehension (scope_of c.args.inner.now) c.args.names.now c.args.condition.now c.args.item.now c.args.list.now) c.in-Items.container (seen c.args.state.now)))
-    c.gather_turns.ensures
-
-pub gather_numbers-returns-in-Ok : goal.gather_numbers-returns-in-Ok
-gather_numbers-returns-in-Ok g t c =
-    subst (λ (o : Outcome Flow). TellsFlow o c.gather_turns.result c.gather_turns.new.state)
-    (sym (over_numbers (here c.args.self.now.program.now c.args.self.now.limit c.args.self.now.depth) [] (Comprehension (scope_of c.args.inner.now) c.args.names.now c.args.condition.now c.args.item.now c.args.list.now) c.args.start.now c.args.stop.now c.args.step.now (seen c.args.state.now) (seen c.args.state.now) c.in-Ok.cursor c.in-Ok.ensures c.is_within.ensures))
-    c.gather_turns.ensures
-
-pub gather_numbers-returns-in-Err : goal.gather_numbers-returns-in-Err
-gather_numbers-returns-in-Err g t c = λ n. over_none (here c.args.self.now.program.now c.args.self.now.limit c.args.self.now.depth) [] (Comprehension (scope_of c.args.inner.now) c.args.names.now c.args.condition.now c.args.item.now c.args.list.now) c.args.start.now c.args.stop.now c.args.step.now (seen c.args.state.now) (seen c.args.state.now) (why_of c.in-Err.why) (c.in-Err.ensures n)
 
 pub expr-returns-in-Name : goal.expr-returns-in-Name
 expr-returns-in-Name g t c = subst (λ (o : Outcome Value). Tells o c.read_name.result c.read_name.new.state) (sym (ap (λ d. spec.expr (here c.args.self.now.program.now c.args.self.now.limit c.args.self.now.depth) (scope_of c.args.scope.now) d (seen c.args.state.now)) c.in-Name.is ∙ expr_Name (here c.args.self.now.program.now c.args.self.now.limit c.args.self.now.depth) _ _ (scope_of c.args.scope.now) (seen c.args.state.now))) c.read_name.ensures
@@ -190,24 +167,53 @@ value_iterable-returns-in-Ok g t c = iterable_other (here c.args.self.now.progra
 pub value_iterable-returns-in-Err : goal.value_iterable-returns-in-Err
 value_iterable-returns-in-Err g t c = λ n. iterable_other (here c.args.self.now.program.now c.args.self.now.limit c.args.self.now.depth) (scope_of c.args.scope.now) (seen c.args.state.now) c.args.e.now c.requires.form ∙ ap (λ (o : Outcome Value). and_then o (λ container s. Gives (loops.Items container) s)) (c.in-Err.ensures n)
 
-pub comprehension-returns : goal.comprehension-returns
-comprehension-returns g t c =
-    let all : c.deref.result.now ≡ record { names = c.args.names } ∷ c.args.scope.now.inner.now = cc (c.deref.ensures.value, c.in_ok-all.ensures) in
-    subst (λ (ls : List Spelling). Tells (comprehended_in (here c.args.self.now.program.now c.args.self.now.limit c.args.self.now.depth) (record { locals = ls; fixed = c.args.scope.now.fixed.now; in_prelude = c.args.scope.now.in_prelude }) c.args.names.now (iterable_of c.args.goes_over) c.args.condition.now c.args.item.now (seen c.args.state.now)) c.comprehension_in.result c.comprehension_in.new.state)
-    (inner_locals (record { names = c.args.names }) c.args.scope.now.inner.now c.deref.result.now c.args.scope.now.locals.now all)
-    c.comprehension_in.ensures
-
-pub comprehension_in-returns-in-Ok : goal.comprehension_in-returns-in-Ok
-comprehension_in-returns-in-Ok g t c =
-    let made : allocate (Listed []) (seen c.args.state.now) ≡ Gives c.in_ok-list.list (seen c.allocate.new.state) = subst (λ (l : List Value). allocate (Listed l) (seen c.args.state.now) ≡ Gives c.in_ok-list.list (seen c.allocate.new.state)) c.new.ensures c.in_ok-list.ensures in
-    comprehension_is (here c.args.self.now.program.now c.args.self.now.limit c.args.self.now.depth) (scope_of c.args.inner.now) c.args.names.now (iterable_of c.args.goes_over) c.args.condition.now c.args.item.now (seen c.args.state.now) (seen c.allocate.new.state) (seen c.gather.new.state) c.in_ok-list.list (flow_of c.in-Ok.field-0) made c.in-Ok.ensures
-    ∙ ap (λ (u : State). Gives c.in_ok-list.list u) (ap (λ (ns : Names). with_names ns (seen c.gather.new.state)) (sym c.in_ok-own.ensures) ∙ sym c.swap_names.ensures.new)
-
-pub comprehension_in-returns-in-Err : goal.comprehension_in-returns-in-Err
-comprehension_in-returns-in-Err g t c =
-    let made : allocate (Listed []) (seen c.args.state.now) ≡ Gives c.in_ok-list.list (seen c.allocate.new.state) = subst (λ (l : List Value). allocate (Listed l) (seen c.args.state.now) ≡ Gives c.in_ok-list.list (seen c.allocate.new.state)) c.new.ensures c.in_ok-list.ensures in
-    λ n. comprehension_stops (here c.args.self.now.program.now c.args.self.now.limit c.args.self.now.depth) (scope_of c.args.inner.now) c.args.names.now (iterable_of c.args.goes_over) c.args.condition.now c.args.item.now (seen c.args.state.now) (seen c.allocate.new.state) (seen c.gather.new.state) c.in_ok-list.list (why_of c.in-Err.why) made (c.in-Err.ensures n)
-
 pub chain-chain-preserved : goal.chain-chain-preserved
 chain-chain-preserved g t c =
     c.chain.invariant ∙ chain_more (here c.args.self.now.program.now c.args.self.now.limit c.args.self.now.depth) (scope_of c.args.scope.now) c.args.others.now c.chain.each-index c.each-item.result c.chain.v c.in-Some.w (seen c.chain.state) (seen c.compare.new.state) c.chain-test.true c.each-item.is (rw c.in-Some.is at c.in_ok-w.ensures)
+
+pub comprehended-returns : goal.comprehended-returns
+comprehended-returns g t c =
+    let at = here c.args.self.now.program.now c.args.self.now.limit c.args.self.now.depth in
+    let done = c.finish.ensures (filling (turns_of at (scope_of c.args.scope.now) c.args.names.now c.args.condition.now c.args.item.now) c.deref_mut.result.now (seen c.begin_gathering.new.state)) c.fill-filled.ensures.filled in
+    subst (λ (o : Outcome Value). Tells o c.finish.result c.finish.new.state)
+    (ended_same c.deref_mut.result.now c.fill-filled.new.begun (filling (turns_of at (scope_of c.args.scope.now) c.args.names.now c.args.condition.now c.args.item.now) c.deref_mut.result.now (seen c.begin_gathering.new.state)) c.fill-filled.ensures.same
+    ∙ ap (λ (b : Gathering). ended b (filling (turns_of at (scope_of c.args.scope.now) c.args.names.now c.args.condition.now c.args.item.now) b (seen c.begin_gathering.new.state))) c.deref_mut.ensures.value
+    ∙ sym c.in_ok-begun.ensures.begun)
+    done
+
+pub fill-turns-init : goal.fill-turns-init
+fill-turns-init g t c =
+    let at = here c.args.self.now.program.now c.args.self.now.limit c.args.self.now.depth in
+    let inside : HasNames c.deref.result.now c.args.names.now c.args.scope.now = subst (λ (all : List Inner). HasNames all c.args.names.now c.args.scope.now) (sym c.deref.ensures.value) c.requires.inside in
+    record {
+      same = refl {a = c.args.begun.now};
+      rest = filling_begins at (scope_of c.args.scope.now) _ c.args.names.now c.args.condition.now c.args.item.now c.args.begun.now (seen c.args.state.now) c.left-left.result c.if-begun.false (inner_scope c.deref.result c.args.names.now c.args.scope.now inside) c.left-left.ensures;
+    }
+
+pub fill-turns-preserved : goal.fill-turns-preserved
+fill-turns-preserved g t c =
+    let at = here c.args.self.now.program.now c.args.self.now.limit c.args.self.now.depth in
+    let inner = scope_of (record { inner = c.deref.result; locals = c.args.scope.now.locals; fixed = c.args.scope.now.fixed; in_prelude = c.args.scope.now.in_prelude }) in
+    let made = stepped_on (stepped inner c.args.names.now in_place c.args.self.now.limit c.turns.begun.1.1.1.1.0 (seen c.turns.state)) c.in_ok-step.field-0 c.step.new.cursor c.step.new.state c.if-not-branch.false c.in_ok-step.ensures in
+    let turned : body at inner c.args.condition.now c.args.item.now c.turns.begun.1.1.0 (seen c.step.new.state) ≡ Gives Next (seen c.if-branch.state) = elim c.if-branch.branch [
+      | fill-then-branch+in_ok-append_found w ↦ item_found at inner c.args.condition.now c.args.item.now c.turns.begun.1.1.0 (seen c.step.new.state) (seen c.kept.new.state) (spec.expr at inner w.get.result.now (seen c.kept.new.state)) (Gives Next (seen w.append_found.new.state)) (subst (λ (t : Bool). condition_of at inner c.args.condition.now (seen c.step.new.state) ≡ Gives t (seen c.kept.new.state)) w.if-branch.true c.in_ok-kept.ensures) (ap (λ (e : Expr). spec.expr at inner e (seen c.kept.new.state)) (sym w.get.ensures)) (w.in_ok-append_found.ensures (spec.expr at inner w.get.result.now (seen c.kept.new.state)) w.expr-found.ensures) ∙ ap (λ (s : code.State). Gives Next (seen s)) (sym w.state-is)
+      | fill-else-branch w ↦ is_passed at inner c.args.condition.now c.args.item.now c.turns.begun.1.1.0 (seen c.step.new.state) (seen c.kept.new.state) (subst (λ (t : Bool). condition_of at inner c.args.condition.now (seen c.step.new.state) ≡ Gives t (seen c.kept.new.state)) w.if-branch.false c.in_ok-kept.ensures) ∙ ap (λ (s : code.State). Gives Next (seen s)) (sym w.state-is)
+    ] in
+    record {
+      same = ap (λ (v : Value). record c.args.begun.now { list = v; cursor = c.step.new.cursor }) (ap (λ (b : Gathering). b.list) c.turns.invariant.same);
+      rest = c.turns.invariant.rest ∙ body_next in_place c.args.self.now.limit inner c.args.names.now (body at inner c.args.condition.now c.args.item.now c.turns.begun.1.1.0) c.turns.left c.turns.begun.1.1.1.1.0 c.step.new.cursor (seen c.turns.state) (seen c.step.new.state) (seen c.if-branch.state) Next made turned refl (omega arith);
+    }
+
+pub kept-returns-in-Some : goal.kept-returns-in-Some
+kept-returns-in-Some g t c =
+    let at = here c.args.self.now.program.now c.args.self.now.limit c.args.self.now.depth in
+    subst (λ (o : Outcome Bool). Tells o c.holds.result c.expr-found.new.state)
+    (sym (condition_found at (scope_of c.args.scope.now) c.args.e.now c.in-Some.e c.get.result.now (seen c.args.state.now) c.in-Some.is c.get.ensures))
+    (c.holds.ensures (spec.expr at (scope_of c.args.scope.now) c.get.result.now (seen c.args.state.now)) c.expr-found.ensures)
+
+pub begin_gathering-returns-clause-begun : goal.begin_gathering-returns-clause-begun
+begin_gathering-returns-clause-begun g t c =
+    let at = here c.args.self.now.program.now c.args.self.now.limit c.args.self.now.depth in
+    subst (λ (o : Outcome Value). TellsGathering {B = Box Gathering Global} (λ begun. begun.value) o (turns_of at (scope_of c.args.scope.now) c.args.names.now c.args.condition.now c.args.item.now) c.gathering_over.result c.gathering_over.new.state)
+    (sym (comprehension_found at (scope_of c.args.scope.now) c.args.names.now c.args.iterable.now c.get.result.now c.args.condition.now c.args.item.now (seen c.args.state.now) c.get.ensures))
+    (c.gathering_over.ensures.begun (spec.iterable at (scope_of c.args.scope.now) c.get.result.now (seen c.args.state.now)) c.iterable-found.ensures)

@@ -3,7 +3,7 @@ use Rattle.source_meaning.specs.Iterations.{in_place}
 use Rattle.source_meaning.specs.Loops.{turns}
 use Rattle.source_meaning.specs.Cursors.{next_by}
 use Rattle.source_meaning.specs.Meaning.{turn_of}
-use Rattle.source_meaning.specs.Steps.{turns_from}
+use Rattle.source_meaning.specs.Gathered.{filling, turns_of}
 use Rattle.source_meaning.specs.Task.{Comprehension}
 use Rattle.source_meaning.specs.Expressions as spec
 use Rattle.source_meaning.specs.Lists as lists
@@ -34,11 +34,14 @@ invariant-chain-chain g l =
     let at = here l.self.program.now l.self.limit l.self.depth in
     lists.chained at (scope_of l.scope) l.others l.fn.first (seen l.fn.state) ≡ lists.chained at (scope_of l.scope) (drop l.each-index l.others) l.v (seen l.state)
 
-abbrev pub invariant-gather_turns-turns : goal.invariant-gather_turns-turns
-invariant-gather_turns-turns g l =
+abbrev pub invariant-fill-turns : goal.invariant-fill-turns
+invariant-fill-turns g l =
     let at = here l.self.program.now l.self.limit l.self.depth in
-    let turn = turn_of at [] (Comprehension (scope_of l.inner) l.names l.condition l.gathered l.list) in
-    turns_from at turn l.fn.from (seen l.fn.state) ≡ turns (next_by in_place l.self.limit) turn (suc l.left) l.cursor (seen l.state)
+    let turn = turn_of at [] (Comprehension (scope_of l.inner) l.names l.condition l.item l.begun.1.1.0) in
+    record {
+      same : record { all = l.begun.1.0; list = l.begun.1.1.0; own = l.begun.1.1.1.0; cursor = l.begun.1.1.1.1.0; is_whole = l.begun.1.1.1.1.1.0 } ≡ record l.fn.begun { cursor = l.begun.1.1.1.1.0 };
+      rest : filling (turns_of at (scope_of l.scope) l.names l.condition l.item) l.fn.begun (seen l.fn.state) ≡ turns (next_by in_place l.self.limit) turn (suc l.left) l.begun.1.1.1.1.0 (seen l.state);
+    }
 
-abbrev pub decreases-gather_turns-turns : goal.decreases-gather_turns-turns
-decreases-gather_turns-turns g l = l.left
+abbrev pub decreases-fill-turns : goal.decreases-fill-turns
+decreases-fill-turns g l = l.left

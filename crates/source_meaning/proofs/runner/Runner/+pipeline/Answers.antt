@@ -40,7 +40,7 @@ pub parallel_stage-leave_iteration-requires : goal.parallel_stage-leave_iteratio
 parallel_stage-leave_iteration-requires g t c = stage_above c.args.self.now.program.now c.args.self.now.limit c.args.self.now.depth (consumers_of c.args.consumers.now) (scope_of c.args.scope.now) c.args.stage.now (drop c.args.from c.args.stages.now) c.args.v (seen c.enter_iteration.new.state) (seen c.perform_ahead.new.state) (flow_of c.in_ok-flow.flow) c.in_ok-flow.ensures c.in_ok-saved.ensures.above
 
 pub parallel_stage-returns : goal.parallel_stage-returns
-parallel_stage-returns g t c = item_gives (region_of c.args.region.now) c.args.v (staged_ahead (here c.args.self.now.program.now c.args.self.now.limit c.args.self.now.depth) (consumers_of c.args.consumers.now) (scope_of c.args.scope.now) c.args.stage.now.form (drop c.args.from c.args.stages.now) c.args.v) (seen c.args.state.now) (stage_is c.args.self.now.program.now c.args.self.now.limit c.args.self.now.depth (consumers_of c.args.consumers.now) (region_of c.args.region.now) (scope_of c.args.scope.now) c.args.stage.now (drop c.args.from c.args.stages.now) c.args.v (seen c.args.state.now)) (seen c.enter_iteration.new.state) (seen c.perform_ahead.new.state) (seen c.leave_iteration.new.state) (saved_of c.in_ok-saved.saved) (flow_of c.in_ok-flow.flow) (ap (λ x. entering (region_of c.args.region.now) x (seen c.args.state.now)) (sym c.in_ok-item.ensures) ∙ c.in_ok-saved.ensures.told) c.in_ok-flow.ensures c.in_ok-leave_iteration.ensures
+parallel_stage-returns g t c = item_gives (region_of c.args.region.now) c.args.v (staged_ahead (here c.args.self.now.program.now c.args.self.now.limit c.args.self.now.depth) (consumers_of c.args.consumers.now) (scope_of c.args.scope.now) c.args.stage.now.form (drop c.args.from c.args.stages.now) c.args.v) (seen c.args.state.now) (stage_is c.args.self.now.program.now c.args.self.now.limit c.args.self.now.depth (consumers_of c.args.consumers.now) (region_of c.args.region.now) (scope_of c.args.scope.now) c.args.stage.now (drop c.args.from c.args.stages.now) c.args.v (seen c.args.state.now)) (seen c.enter_iteration.new.state) (seen c.perform_ahead.new.state) (seen c.leave_iteration.new.state) (saved_of c.in_ok-saved.saved) (flow_of c.in_ok-flow.flow) c.in_ok-saved.ensures.told c.in_ok-flow.ensures c.in_ok-leave_iteration.ensures
 
 pub parallel_stage-returns-in_err-saved : goal.parallel_stage-returns-in_err-saved
 unfolding bind pure

@@ -1,27 +1,26 @@
-use Rattle.std.proofs.Common.{◌≡◌, ◌∙◌, ap, sym, subst, arith, rules}
+use Rattle.std.proofs.Common.{◌≡◌, ◌∙◌, ap, sym, subst, arith, rules, List, Some}
 use Rattle.std.proofs.lemmas.Grind.{common_steps}
-use Rattle.source_meaning.specs.State.{Flow}
-use Rattle.source_meaning.specs.Outcome.{Outcome, Gives, bind, pure}
+use Rattle.source_meaning.specs.State.{Flow, Spelling}
+use Rattle.source_meaning.specs.Outcome.{Outcome, Gives, and_then, bind, pure}
 use Rattle.source_meaning.specs.Iterations.{in_place}
 use Rattle.source_meaning.specs.Cursors.{next_by}
-use Rattle.source_meaning.specs.Captures.{body_scope}
 use Rattle.source_meaning.specs.Meaning.{turn_of}
 use Rattle.source_meaning.specs.Statements.{stmt, statements, raise}
 use Rattle.source_meaning.specs.Expressions.{condition}
 use Rattle.source_meaning.specs.Loops.{while_next}
-use Rattle.source_meaning.specs.Steps.{chosen, iterable_of, looped}
-use Rattle.source_meaning.specs.declared.iterable.Iterable.{Iterable}
-use Rattle.source_meaning.proofs.Over.{over_items, over_numbers, over_none}
-use Rattle.source_meaning.specs.Task.{Body}
-use Rattle.source_meaning.specs.Regions.{consumer_in}
-use Rattle.source_meaning.specs.Inside.{saved_of, entering}
+use Rattle.source_meaning.specs.Steps.{chosen, parallel_of, turns_from}
+use Rattle.source_meaning.specs.Task.{Body, Parallel}
+use Rattle.source_meaning.specs.Inside.{saved_of}
 use Rattle.source_meaning.specs.Seen.{seen, flow_of, why_of, TellsFlow}
+use Rattle.source_meaning.specs.Entered.{stepped, region_ends}
 use Rattle.source_meaning.specs.Scopes.{scope_of}
-use Rattle.source_meaning.specs.Tasks.{here, consumers_of, region_at, region_of}
+use Rattle.source_meaning.specs.Tasks.{here, consumers_of, region_of}
 use Rattle.source_meaning.proofs.StatementEquations.{stmt_Pass, stmt_Break, stmt_Continue, stmt_Return, stmt_Yield, stmt_Raise, stmt_Assert, stmt_Annotated, stmt_Assign, stmt_Update, stmt_Evaluate, stmt_Print, stmt_Pipeline, stmt_If, stmt_While, stmt_For, stmt_Par}
 use Rattle.source_meaning.proofs.Blocks.{block_more, block_next, block_leaves, block_stops, block_end, chosen_next, chosen_end}
-use Rattle.source_meaning.proofs.Turns.{loop_begins, turn_next}
-use Rattle.source_meaning.proofs.Apart.{loop_region_begins, region_gives, region_stops, region_stops_after, item_gives, item_stops_before, item_stops, item_stops_after, turn_is, turn_above}
+use Rattle.source_meaning.proofs.Turns.{loop_begins, turn_next, turn_end, turn_stops_before, turn_stops, turn_leaves, turn_out, by_next, by_turn}
+use Rattle.source_meaning.proofs.Stepped.{step_end, step_stops, body_stops, body_leaves, body_out, body_next, by_step, by_body}
+use Rattle.source_meaning.proofs.LoopEnds.{loop_ends, for_is, closed_by, stepped_on, stepped_off}
+use Rattle.source_meaning.proofs.Apart.{turned_by, turned_above, turn_is}
 use Rattle.source_meaning.proofs.runner.Runner.+statement.Goals as goal
 
 pub statement-returns-in-Return : goal.statement-returns-in-Return
@@ -117,71 +116,109 @@ while_loop-turns-preserved-else-left-eq0-2 g t c = c.turns.invariant ∙ turn_ne
 pub while_loop-turns-preserved-else-left-eq0-3 : goal.while_loop-turns-preserved-else-left-eq0-3
 while_loop-turns-preserved-else-left-eq0-3 g t c = c.turns.invariant ∙ turn_next (while_next c.args.self.now.limit (condition (here c.args.self.now.program.now c.args.self.now.limit c.args.self.now.depth) (scope_of c.args.scope.now) c.args.e.now)) (λ _. statements (here c.args.self.now.program.now c.args.self.now.limit c.args.self.now.depth) (consumers_of c.args.consumers.now) (scope_of c.args.scope.now) c.args.body.now) c.turns.left tt (seen c.turns.state) (seen c.while_next.new.state) (seen c.block.new.state) c.in-Some.field-0 (flow_of c.in_ok-flow.flow) (rw c.in-Some.is at c.in_ok-while_next.ensures) c.in_ok-flow.ensures (sym c.goes_on.ensures ∙ c.if-not-goes_on.false) (omega arith)
 
-pub parallel_turn-leave_iteration-requires : goal.parallel_turn-leave_iteration-requires
-parallel_turn-leave_iteration-requires g t c = turn_above c.args.self.now.program.now c.args.self.now.limit c.args.self.now.depth (consumers_of c.args.consumers.now) (scope_of c.args.scope.now) c.args.names.now c.args.body.now c.args.v (seen c.enter_iteration.new.state) (seen c.body_turn.new.state) (flow_of c.in_ok-flow.flow) c.in_ok-flow.ensures c.in_ok-saved.ensures.above
+pub parallel_turn-close_turn-requires : goal.parallel_turn-close_turn-requires
+parallel_turn-close_turn-requires g t c = turned_above c.args.self.now.program.now c.args.self.now.limit c.args.self.now.depth (consumers_of c.args.consumers.now) (scope_of c.args.scope.now) c.args.names.now c.args.body.now c.args.v (seen c.enter_iteration.new.state) c.body_turn-left.result c.body_turn-left.new.state c.body_turn-left.ensures c.in_ok-saved.ensures.above
 
 pub parallel_turn-returns : goal.parallel_turn-returns
-parallel_turn-returns g t c = item_gives (region_of c.args.region.now) c.args.v (turn_of (here c.args.self.now.program.now c.args.self.now.limit c.args.self.now.depth) (consumers_of c.args.consumers.now) (Body (scope_of c.args.scope.now) c.args.names.now c.args.body.now) c.args.v) (seen c.args.state.now) (turn_is c.args.self.now.program.now c.args.self.now.limit c.args.self.now.depth (consumers_of c.args.consumers.now) (region_of c.args.region.now) (scope_of c.args.scope.now) c.args.names.now c.args.body.now c.args.v (seen c.args.state.now)) (seen c.enter_iteration.new.state) (seen c.body_turn.new.state) (seen c.leave_iteration.new.state) (saved_of c.in_ok-saved.saved) (flow_of c.in_ok-flow.flow) (ap (λ x. entering (region_of c.args.region.now) x (seen c.args.state.now)) (sym c.in_ok-item.ensures) ∙ c.in_ok-saved.ensures.told) c.in_ok-flow.ensures c.in_ok-leave_iteration.ensures
+parallel_turn-returns g t c = turned_by (region_of c.args.region.now) c.args.v (turn_of (here c.args.self.now.program.now c.args.self.now.limit c.args.self.now.depth) (consumers_of c.args.consumers.now) (Body (scope_of c.args.scope.now) c.args.names.now c.args.body.now) c.args.v) (seen c.args.state.now) (seen c.enter_iteration.new.state) (saved_of c.in_ok-saved.saved) (turn_is c.args.self.now.program.now c.args.self.now.limit c.args.self.now.depth (consumers_of c.args.consumers.now) (region_of c.args.region.now) (scope_of c.args.scope.now) c.args.names.now c.args.body.now c.args.v (seen c.args.state.now)) c.in_ok-saved.ensures.told c.body_turn-left.result c.close_turn.result c.body_turn-left.new.state c.close_turn.new.state c.body_turn-left.ensures c.close_turn.ensures
 
 pub parallel_turn-returns-in_err-saved : goal.parallel_turn-returns-in_err-saved
 unfolding bind pure
 parallel_turn-returns-in_err-saved g t c = let next = turn_is c.args.self.now.program.now c.args.self.now.limit c.args.self.now.depth (consumers_of c.args.consumers.now) (region_of c.args.region.now) (scope_of c.args.scope.now) c.args.names.now c.args.body.now c.args.v (seen c.args.state.now) in
     grind (arith, common_steps, next)
 
-pub parallel_turn-returns-in_err-flow : goal.parallel_turn-returns-in_err-flow
+pub parallel_loop-returns : goal.parallel_loop-returns
+parallel_loop-returns g t c = closed_by (parallel_of (here c.args.self.now.program.now c.args.self.now.limit c.args.self.now.depth) (consumers_of c.args.consumers.now) (scope_of c.args.scope.now) c.args.l.now (seen c.args.state.now)) c.parallel_turns-left.result c.close_region.result c.parallel_turns-left.new.opened.begun c.parallel_turns-left.new.state c.close_region.new.state c.parallel_turns-left.ensures c.close_region.ensures
+
+pub for_turns-turns-init : goal.for_turns-turns-init
+for_turns-turns-init g t c =
+    for_is (here c.args.self.now.program.now c.args.self.now.limit c.args.self.now.depth) (consumers_of c.args.consumers.now) (scope_of c.args.scope.now) c.args.l.now (seen c.args.state.now)
+    ∙ ap (λ (o : Outcome Flow). and_then o loop_ends) ((rw c.in-None.is at c.in_ok-entered.ensures)
+    ∙ loop_begins (next_by in_place c.args.self.now.limit) (turn_of (here c.args.self.now.program.now c.args.self.now.limit c.args.self.now.depth) (consumers_of c.args.consumers.now) (Body (scope_of c.args.scope.now) c.args.l.now.names c.args.l.now.body)) c.args.self.now.limit c.enter_for.new.cursor (seen c.enter_for.new.state) c.left-left.result c.left-left.ensures)
+
+-- loops that begin, and make their turns in place
+
+pub for_turns-turns-preserved : goal.for_turns-turns-preserved
+for_turns-turns-preserved g t c = c.turns.invariant ∙ ap (λ (o : Outcome Flow). and_then o loop_ends) (body_next in_place c.args.self.now.limit (scope_of c.args.scope.now) c.args.l.now.names (statements (here c.args.self.now.program.now c.args.self.now.limit c.args.self.now.depth) (consumers_of c.args.consumers.now) (scope_of c.args.scope.now) c.args.l.now.body) c.turns.left c.turns.cursor c.step.new.cursor (seen c.turns.state) (seen c.step.new.state) (seen c.block.new.state) (flow_of c.in_ok-flow.flow) (stepped_on (stepped (scope_of c.args.scope.now) c.args.l.now.names in_place c.args.self.now.limit c.turns.cursor (seen c.turns.state)) c.step.new.cursor c.step.new.state c.in_ok-is_there.is_there c.in_ok-is_there.ensures c.if-not-is_there.false) c.in_ok-flow.ensures (sym c.goes_on.ensures ∙ c.if-not-goes_on.false) (omega arith))
+
+pub for_turns-turns-preserved-else-left-eq0 : goal.for_turns-turns-preserved-else-left-eq0
+for_turns-turns-preserved-else-left-eq0 g t c = c.turns.invariant ∙ ap (λ (o : Outcome Flow). and_then o loop_ends) (body_next in_place c.args.self.now.limit (scope_of c.args.scope.now) c.args.l.now.names (statements (here c.args.self.now.program.now c.args.self.now.limit c.args.self.now.depth) (consumers_of c.args.consumers.now) (scope_of c.args.scope.now) c.args.l.now.body) c.turns.left c.turns.cursor c.step.new.cursor (seen c.turns.state) (seen c.step.new.state) (seen c.block.new.state) (flow_of c.in_ok-flow.flow) (stepped_on (stepped (scope_of c.args.scope.now) c.args.l.now.names in_place c.args.self.now.limit c.turns.cursor (seen c.turns.state)) c.step.new.cursor c.step.new.state c.in_ok-is_there.is_there c.in_ok-is_there.ensures c.if-not-is_there.false) c.in_ok-flow.ensures (sym c.goes_on.ensures ∙ c.if-not-goes_on.false) (omega arith))
+
+pub for_turns-turns-preserved-else-left-eq0-2 : goal.for_turns-turns-preserved-else-left-eq0-2
+for_turns-turns-preserved-else-left-eq0-2 g t c = c.turns.invariant ∙ ap (λ (o : Outcome Flow). and_then o loop_ends) (body_next in_place c.args.self.now.limit (scope_of c.args.scope.now) c.args.l.now.names (statements (here c.args.self.now.program.now c.args.self.now.limit c.args.self.now.depth) (consumers_of c.args.consumers.now) (scope_of c.args.scope.now) c.args.l.now.body) c.turns.left c.turns.cursor c.step.new.cursor (seen c.turns.state) (seen c.step.new.state) (seen c.block.new.state) (flow_of c.in_ok-flow.flow) (stepped_on (stepped (scope_of c.args.scope.now) c.args.l.now.names in_place c.args.self.now.limit c.turns.cursor (seen c.turns.state)) c.step.new.cursor c.step.new.state c.in_ok-is_there.is_there c.in_ok-is_there.ensures c.if-not-is_there.false) c.in_ok-flow.ensures (sym c.goes_on.ensures ∙ c.if-not-goes_on.false) (omega arith))
+
+pub for_turns-turns-preserved-else-left-eq0-3 : goal.for_turns-turns-preserved-else-left-eq0-3
+for_turns-turns-preserved-else-left-eq0-3 g t c = c.turns.invariant ∙ ap (λ (o : Outcome Flow). and_then o loop_ends) (body_next in_place c.args.self.now.limit (scope_of c.args.scope.now) c.args.l.now.names (statements (here c.args.self.now.program.now c.args.self.now.limit c.args.self.now.depth) (consumers_of c.args.consumers.now) (scope_of c.args.scope.now) c.args.l.now.body) c.turns.left c.turns.cursor c.step.new.cursor (seen c.turns.state) (seen c.step.new.state) (seen c.block.new.state) (flow_of c.in_ok-flow.flow) (stepped_on (stepped (scope_of c.args.scope.now) c.args.l.now.names in_place c.args.self.now.limit c.turns.cursor (seen c.turns.state)) c.step.new.cursor c.step.new.state c.in_ok-is_there.is_there c.in_ok-is_there.ensures c.if-not-is_there.false) c.in_ok-flow.ensures (sym c.goes_on.ensures ∙ c.if-not-goes_on.false) (omega arith))
+
+pub for_turns-returns-then-not-is_there : goal.for_turns-returns-then-not-is_there
+unfolding pure
+for_turns-returns-then-not-is_there g t c = c.turns.invariant ∙ ap (λ (o : Outcome Flow). and_then o loop_ends) (step_end in_place c.args.self.now.limit (scope_of c.args.scope.now) c.args.l.now.names (statements (here c.args.self.now.program.now c.args.self.now.limit c.args.self.now.depth) (consumers_of c.args.consumers.now) (scope_of c.args.scope.now) c.args.l.now.body) c.turns.left c.turns.cursor (seen c.turns.state) (seen c.step.new.state) (stepped_off (stepped (scope_of c.args.scope.now) c.args.l.now.names in_place c.args.self.now.limit c.turns.cursor (seen c.turns.state)) c.step.new.cursor c.step.new.state c.in_ok-is_there.is_there c.in_ok-is_there.ensures c.if-not-is_there.true)) ∙ ap (λ f. Gives f (seen c.step.new.state)) (sym c.ended.ensures)
+
+pub for_turns-returns-in_err-is_there : goal.for_turns-returns-in_err-is_there
 unfolding bind pure
-parallel_turn-returns-in_err-flow g t c = let next = turn_is c.args.self.now.program.now c.args.self.now.limit c.args.self.now.depth (consumers_of c.args.consumers.now) (region_of c.args.region.now) (scope_of c.args.scope.now) c.args.names.now c.args.body.now c.args.v (seen c.args.state.now) in
+for_turns-returns-in_err-is_there g t c =
+    let next = by_step in_place c.args.self.now.limit (scope_of c.args.scope.now) c.args.l.now.names (statements (here c.args.self.now.program.now c.args.self.now.limit c.args.self.now.depth) (consumers_of c.args.consumers.now) (scope_of c.args.scope.now) c.args.l.now.body) c.turns.left c.turns.cursor (seen c.turns.state) in
     grind (arith, common_steps, next)
 
-pub parallel_turn-returns-in_err-leave_iteration : goal.parallel_turn-returns-in_err-leave_iteration
+pub for_turns-returns-in_err-flow : goal.for_turns-returns-in_err-flow
 unfolding bind pure
-parallel_turn-returns-in_err-leave_iteration g t c = let next = turn_is c.args.self.now.program.now c.args.self.now.limit c.args.self.now.depth (consumers_of c.args.consumers.now) (region_of c.args.region.now) (scope_of c.args.scope.now) c.args.names.now c.args.body.now c.args.v (seen c.args.state.now) in
+for_turns-returns-in_err-flow g t c =
+    let next = by_body in_place c.args.self.now.limit (scope_of c.args.scope.now) c.args.l.now.names (statements (here c.args.self.now.program.now c.args.self.now.limit c.args.self.now.depth) (consumers_of c.args.consumers.now) (scope_of c.args.scope.now) c.args.l.now.body) c.turns.left c.turns.cursor c.step.new.cursor (seen c.turns.state) (seen c.step.new.state) (stepped_on (stepped (scope_of c.args.scope.now) c.args.l.now.names in_place c.args.self.now.limit c.turns.cursor (seen c.turns.state)) c.step.new.cursor c.step.new.state c.in_ok-is_there.is_there c.in_ok-is_there.ensures c.if-not-is_there.false) in
     grind (arith, common_steps, next)
 
-pub region_of_loop-returns : goal.region_of_loop-returns
+pub for_turns-returns-then-not-goes_on : goal.for_turns-returns-then-not-goes_on
+unfolding pure
+for_turns-returns-then-not-goes_on g t c = c.turns.invariant ∙ ap (λ (o : Outcome Flow). and_then o loop_ends) (body_leaves in_place c.args.self.now.limit (scope_of c.args.scope.now) c.args.l.now.names (statements (here c.args.self.now.program.now c.args.self.now.limit c.args.self.now.depth) (consumers_of c.args.consumers.now) (scope_of c.args.scope.now) c.args.l.now.body) c.turns.left c.turns.cursor c.step.new.cursor (seen c.turns.state) (seen c.step.new.state) (seen c.block.new.state) (flow_of c.in_ok-flow.flow) (stepped_on (stepped (scope_of c.args.scope.now) c.args.l.now.names in_place c.args.self.now.limit c.turns.cursor (seen c.turns.state)) c.step.new.cursor c.step.new.state c.in_ok-is_there.is_there c.in_ok-is_there.ensures c.if-not-is_there.false) c.in_ok-flow.ensures (sym c.goes_on.ensures ∙ c.if-not-goes_on.true)) ∙ ap (λ f. Gives f (seen c.block.new.state)) (sym c.after_loop-then-not-goes_on.ensures)
+
+pub for_turns-returns-then-left-eq0 : goal.for_turns-returns-then-left-eq0
+for_turns-returns-then-left-eq0 g t c = λ n. c.turns.invariant ∙ ap (λ (o : Outcome Flow). and_then o loop_ends) (body_out in_place c.args.self.now.limit (scope_of c.args.scope.now) c.args.l.now.names (statements (here c.args.self.now.program.now c.args.self.now.limit c.args.self.now.depth) (consumers_of c.args.consumers.now) (scope_of c.args.scope.now) c.args.l.now.body) c.turns.left c.turns.cursor c.step.new.cursor (seen c.turns.state) (seen c.step.new.state) (seen c.block.new.state) (flow_of c.in_ok-flow.flow) (stepped_on (stepped (scope_of c.args.scope.now) c.args.l.now.names in_place c.args.self.now.limit c.turns.cursor (seen c.turns.state)) c.step.new.cursor c.step.new.state c.in_ok-is_there.is_there c.in_ok-is_there.ensures c.if-not-is_there.false) c.in_ok-flow.ensures (sym c.goes_on.ensures ∙ c.if-not-goes_on.false) c.if-left-eq0.true)
+
+pub for_turns-returns-in-Some : goal.for_turns-returns-in-Some
+unfolding pure
+for_turns-returns-in-Some g t c = for_is (here c.args.self.now.program.now c.args.self.now.limit c.args.self.now.depth) (consumers_of c.args.consumers.now) (scope_of c.args.scope.now) c.args.l.now (seen c.args.state.now) ∙ ap (λ (o : Outcome Flow). and_then o loop_ends) (rw c.in-Some.is at c.in_ok-entered.ensures) ∙ ap (λ f. Gives f (seen c.enter_for.new.state)) (sym c.after_loop.ensures)
+
+pub for_turns-returns-in_err-entered : goal.for_turns-returns-in_err-entered
 unfolding bind pure
-region_of_loop-returns g t c = let fixed : c.as_slice-2.result.now ≡ (body_scope (scope_of c.args.scope.now) c.args.l.now.names c.args.l.now.body).fixed = c.as_slice-2.ensures ∙ c.in_ok-fixed.ensures ∙ ap (λ b. (body_scope (scope_of c.args.scope.now) c.args.l.now.names b).fixed) c.as_slice.ensures in
-    let next = loop_region_begins (here c.args.self.now.program.now c.args.self.now.limit c.args.self.now.depth) (consumers_of c.args.consumers.now) (iterable_of c.args.goes_over) (region_of c.args.region.now) (scope_of c.args.scope.now) c.args.l.now.names c.args.l.now.body c.as_slice-2.result.now fixed (seen c.args.state.now) (seen c.start_region-begun.new.state) c.start_region-begun.result.outside c.start_region-begun.result.reached c.start_region-begun.ensures.new c.start_region-begun.ensures.outside c.start_region-begun.ensures.reached in
+for_turns-returns-in_err-entered g t c =
+    let next = for_is (here c.args.self.now.program.now c.args.self.now.limit c.args.self.now.depth) (consumers_of c.args.consumers.now) (scope_of c.args.scope.now) c.args.l.now (seen c.args.state.now) in
     grind (arith, common_steps, next)
 
-pub region_of_loop-returns-in_err-flow : goal.region_of_loop-returns-in_err-flow
+pub parallel_turns-turns-init : goal.parallel_turns-turns-init
+parallel_turns-turns-init g t c = loop_begins (next_by in_place c.args.self.now.limit) (turn_of (here c.args.self.now.program.now c.args.self.now.limit c.args.self.now.depth) (consumers_of c.args.consumers.now) (Parallel (region_of c.open_region.new.opened.region) (record (scope_of c.args.scope.now) { fixed = c.as_slice.result.now }) c.args.l.now.names c.args.l.now.body)) c.args.self.now.limit c.open_region.new.cursor (seen c.open_region.new.state) c.left-left.result c.left-left.ensures
+
+pub parallel_turns-turns-preserved : goal.parallel_turns-turns-preserved
+parallel_turns-turns-preserved g t c = c.turns.invariant ∙ turn_next (next_by in_place c.args.self.now.limit) (turn_of (here c.args.self.now.program.now c.args.self.now.limit c.args.self.now.depth) (consumers_of c.args.consumers.now) (Parallel (region_of c.open_region.new.opened.region) (record (scope_of c.args.scope.now) { fixed = c.as_slice.result.now }) c.args.l.now.names c.args.l.now.body)) c.turns.left c.turns.cursor (seen c.turns.state) (seen c.advance.new.state) (seen c.parallel_turn.new.state) (c.in-Some-2.v, c.advance.new.cursor) (flow_of c.in_ok-flow.flow) (rw c.in-Some-2.is at c.in_ok-v.ensures) c.in_ok-flow.ensures (sym c.goes_on.ensures ∙ c.if-not-goes_on.false) (omega arith)
+
+pub parallel_turns-turns-preserved-else-left-eq0 : goal.parallel_turns-turns-preserved-else-left-eq0
+parallel_turns-turns-preserved-else-left-eq0 g t c = c.turns.invariant ∙ turn_next (next_by in_place c.args.self.now.limit) (turn_of (here c.args.self.now.program.now c.args.self.now.limit c.args.self.now.depth) (consumers_of c.args.consumers.now) (Parallel (region_of c.open_region.new.opened.region) (record (scope_of c.args.scope.now) { fixed = c.as_slice.result.now }) c.args.l.now.names c.args.l.now.body)) c.turns.left c.turns.cursor (seen c.turns.state) (seen c.advance.new.state) (seen c.parallel_turn.new.state) (c.in-Some-2.v, c.advance.new.cursor) (flow_of c.in_ok-flow.flow) (rw c.in-Some-2.is at c.in_ok-v.ensures) c.in_ok-flow.ensures (sym c.goes_on.ensures ∙ c.if-not-goes_on.false) (omega arith)
+
+pub parallel_turns-turns-preserved-else-left-eq0-2 : goal.parallel_turns-turns-preserved-else-left-eq0-2
+parallel_turns-turns-preserved-else-left-eq0-2 g t c = c.turns.invariant ∙ turn_next (next_by in_place c.args.self.now.limit) (turn_of (here c.args.self.now.program.now c.args.self.now.limit c.args.self.now.depth) (consumers_of c.args.consumers.now) (Parallel (region_of c.open_region.new.opened.region) (record (scope_of c.args.scope.now) { fixed = c.as_slice.result.now }) c.args.l.now.names c.args.l.now.body)) c.turns.left c.turns.cursor (seen c.turns.state) (seen c.advance.new.state) (seen c.parallel_turn.new.state) (c.in-Some-2.v, c.advance.new.cursor) (flow_of c.in_ok-flow.flow) (rw c.in-Some-2.is at c.in_ok-v.ensures) c.in_ok-flow.ensures (sym c.goes_on.ensures ∙ c.if-not-goes_on.false) (omega arith)
+
+pub parallel_turns-turns-preserved-else-left-eq0-3 : goal.parallel_turns-turns-preserved-else-left-eq0-3
+parallel_turns-turns-preserved-else-left-eq0-3 g t c = c.turns.invariant ∙ turn_next (next_by in_place c.args.self.now.limit) (turn_of (here c.args.self.now.program.now c.args.self.now.limit c.args.self.now.depth) (consumers_of c.args.consumers.now) (Parallel (region_of c.open_region.new.opened.region) (record (scope_of c.args.scope.now) { fixed = c.as_slice.result.now }) c.args.l.now.names c.args.l.now.body)) c.turns.left c.turns.cursor (seen c.turns.state) (seen c.advance.new.state) (seen c.parallel_turn.new.state) (c.in-Some-2.v, c.advance.new.cursor) (flow_of c.in_ok-flow.flow) (rw c.in-Some-2.is at c.in_ok-v.ensures) c.in_ok-flow.ensures (sym c.goes_on.ensures ∙ c.if-not-goes_on.false) (omega arith)
+
+pub parallel_turns-returns-in_default : goal.parallel_turns-returns-in_default
+parallel_turns-returns-in_default g t c = (rw c.in-None.is at c.in_ok-entered.ensures) ∙ ap (λ (f : List Spelling). and_then (turns_from (here c.args.self.now.program.now c.args.self.now.limit c.args.self.now.depth) (turn_of (here c.args.self.now.program.now c.args.self.now.limit c.args.self.now.depth) (consumers_of c.args.consumers.now) (Parallel (region_of c.open_region.new.opened.region) (record (scope_of c.args.scope.now) { fixed = f }) c.args.l.now.names c.args.l.now.body)) c.open_region.new.cursor (seen c.open_region.new.state)) (region_ends c.open_region.new.opened.begun.outside c.open_region.new.opened.begun.reached)) (sym c.as_slice.ensures) ∙ ap (λ (o : Outcome Flow). and_then o (region_ends c.open_region.new.opened.begun.outside c.open_region.new.opened.begun.reached)) (c.turns.invariant ∙ turn_end (next_by in_place c.args.self.now.limit) (turn_of (here c.args.self.now.program.now c.args.self.now.limit c.args.self.now.depth) (consumers_of c.args.consumers.now) (Parallel (region_of c.open_region.new.opened.region) (record (scope_of c.args.scope.now) { fixed = c.as_slice.result.now }) c.args.l.now.names c.args.l.now.body)) c.turns.left c.turns.cursor (seen c.turns.state) (seen c.advance.new.state) (rw c.in_default.is at c.in_ok-v.ensures)) ∙ ap (λ f. (region_ends c.open_region.new.opened.begun.outside c.open_region.new.opened.begun.reached) f (seen c.advance.new.state)) (sym c.ended.ensures)
+
+pub parallel_turns-returns-then-not-goes_on : goal.parallel_turns-returns-then-not-goes_on
+parallel_turns-returns-then-not-goes_on g t c = (rw c.in-None.is at c.in_ok-entered.ensures) ∙ ap (λ (f : List Spelling). and_then (turns_from (here c.args.self.now.program.now c.args.self.now.limit c.args.self.now.depth) (turn_of (here c.args.self.now.program.now c.args.self.now.limit c.args.self.now.depth) (consumers_of c.args.consumers.now) (Parallel (region_of c.open_region.new.opened.region) (record (scope_of c.args.scope.now) { fixed = f }) c.args.l.now.names c.args.l.now.body)) c.open_region.new.cursor (seen c.open_region.new.state)) (region_ends c.open_region.new.opened.begun.outside c.open_region.new.opened.begun.reached)) (sym c.as_slice.ensures) ∙ ap (λ (o : Outcome Flow). and_then o (region_ends c.open_region.new.opened.begun.outside c.open_region.new.opened.begun.reached)) (c.turns.invariant ∙ turn_leaves (next_by in_place c.args.self.now.limit) (turn_of (here c.args.self.now.program.now c.args.self.now.limit c.args.self.now.depth) (consumers_of c.args.consumers.now) (Parallel (region_of c.open_region.new.opened.region) (record (scope_of c.args.scope.now) { fixed = c.as_slice.result.now }) c.args.l.now.names c.args.l.now.body)) c.turns.left c.turns.cursor (seen c.turns.state) (seen c.advance.new.state) (seen c.parallel_turn.new.state) (c.in-Some-2.v, c.advance.new.cursor) (flow_of c.in_ok-flow.flow) (rw c.in-Some-2.is at c.in_ok-v.ensures) c.in_ok-flow.ensures (sym c.goes_on.ensures ∙ c.if-not-goes_on.true))
+
+pub parallel_turns-returns-then-left-eq0 : goal.parallel_turns-returns-then-left-eq0
+parallel_turns-returns-then-left-eq0 g t c = λ n. (rw c.in-None.is at c.in_ok-entered.ensures) ∙ ap (λ (f : List Spelling). and_then (turns_from (here c.args.self.now.program.now c.args.self.now.limit c.args.self.now.depth) (turn_of (here c.args.self.now.program.now c.args.self.now.limit c.args.self.now.depth) (consumers_of c.args.consumers.now) (Parallel (region_of c.open_region.new.opened.region) (record (scope_of c.args.scope.now) { fixed = f }) c.args.l.now.names c.args.l.now.body)) c.open_region.new.cursor (seen c.open_region.new.state)) (region_ends c.open_region.new.opened.begun.outside c.open_region.new.opened.begun.reached)) (sym c.as_slice.ensures) ∙ ap (λ (o : Outcome Flow). and_then o (region_ends c.open_region.new.opened.begun.outside c.open_region.new.opened.begun.reached)) (c.turns.invariant ∙ turn_out (next_by in_place c.args.self.now.limit) (turn_of (here c.args.self.now.program.now c.args.self.now.limit c.args.self.now.depth) (consumers_of c.args.consumers.now) (Parallel (region_of c.open_region.new.opened.region) (record (scope_of c.args.scope.now) { fixed = c.as_slice.result.now }) c.args.l.now.names c.args.l.now.body)) c.turns.left c.turns.cursor (seen c.turns.state) (seen c.advance.new.state) (seen c.parallel_turn.new.state) (c.in-Some-2.v, c.advance.new.cursor) (flow_of c.in_ok-flow.flow) (rw c.in-Some-2.is at c.in_ok-v.ensures) c.in_ok-flow.ensures (sym c.goes_on.ensures ∙ c.if-not-goes_on.false) c.if-left-eq0.true)
+
+pub parallel_turns-returns-in_err-v : goal.parallel_turns-returns-in_err-v
 unfolding bind pure
-region_of_loop-returns-in_err-flow g t c = let fixed : c.as_slice-2.result.now ≡ (body_scope (scope_of c.args.scope.now) c.args.l.now.names c.args.l.now.body).fixed = c.as_slice-2.ensures ∙ c.in_ok-fixed.ensures ∙ ap (λ b. (body_scope (scope_of c.args.scope.now) c.args.l.now.names b).fixed) c.as_slice.ensures in
-    let next = loop_region_begins (here c.args.self.now.program.now c.args.self.now.limit c.args.self.now.depth) (consumers_of c.args.consumers.now) (iterable_of c.args.goes_over) (region_of c.args.region.now) (scope_of c.args.scope.now) c.args.l.now.names c.args.l.now.body c.as_slice-2.result.now fixed (seen c.args.state.now) (seen c.start_region-begun.new.state) c.start_region-begun.result.outside c.start_region-begun.result.reached c.start_region-begun.ensures.new c.start_region-begun.ensures.outside c.start_region-begun.ensures.reached in
-    grind (arith, common_steps, next)
+parallel_turns-returns-in_err-v g t c =
+    let begins = (rw c.in-None.is at c.in_ok-entered.ensures) ∙ ap (λ (f : List Spelling). and_then (turns_from (here c.args.self.now.program.now c.args.self.now.limit c.args.self.now.depth) (turn_of (here c.args.self.now.program.now c.args.self.now.limit c.args.self.now.depth) (consumers_of c.args.consumers.now) (Parallel (region_of c.open_region.new.opened.region) (record (scope_of c.args.scope.now) { fixed = f }) c.args.l.now.names c.args.l.now.body)) c.open_region.new.cursor (seen c.open_region.new.state)) (region_ends c.open_region.new.opened.begun.outside c.open_region.new.opened.begun.reached)) (sym c.as_slice.ensures) in
+    let before = c.turns.invariant in
+    let next = by_next (next_by in_place c.args.self.now.limit) (turn_of (here c.args.self.now.program.now c.args.self.now.limit c.args.self.now.depth) (consumers_of c.args.consumers.now) (Parallel (region_of c.open_region.new.opened.region) (record (scope_of c.args.scope.now) { fixed = c.as_slice.result.now }) c.args.l.now.names c.args.l.now.body)) c.turns.left c.turns.cursor (seen c.turns.state) in
+    grind (arith, common_steps, begins, before, next)
 
-pub region_of_loop-returns-in_err-finish_region : goal.region_of_loop-returns-in_err-finish_region
+pub parallel_turns-returns-in_err-flow : goal.parallel_turns-returns-in_err-flow
 unfolding bind pure
-region_of_loop-returns-in_err-finish_region g t c = let fixed : c.as_slice-2.result.now ≡ (body_scope (scope_of c.args.scope.now) c.args.l.now.names c.args.l.now.body).fixed = c.as_slice-2.ensures ∙ c.in_ok-fixed.ensures ∙ ap (λ b. (body_scope (scope_of c.args.scope.now) c.args.l.now.names b).fixed) c.as_slice.ensures in
-    let next = loop_region_begins (here c.args.self.now.program.now c.args.self.now.limit c.args.self.now.depth) (consumers_of c.args.consumers.now) (iterable_of c.args.goes_over) (region_of c.args.region.now) (scope_of c.args.scope.now) c.args.l.now.names c.args.l.now.body c.as_slice-2.result.now fixed (seen c.args.state.now) (seen c.start_region-begun.new.state) c.start_region-begun.result.outside c.start_region-begun.result.reached c.start_region-begun.ensures.new c.start_region-begun.ensures.outside c.start_region-begun.ensures.reached in
-    grind (arith, common_steps, next)
-
-pub turns-turns-init : goal.turns-turns-init
-turns-turns-init g t c = loop_begins (next_by in_place c.args.self.now.limit) (turn_of (here c.args.self.now.program.now c.args.self.now.limit c.args.self.now.depth) (consumers_of c.args.consumers.now) (consumer_in (region_at c.args.region) (scope_of c.args.scope.now) c.args.l.now)) c.args.self.now.limit c.args.from (seen c.args.state.now) c.left-left.result c.left-left.ensures
-
-pub turns-turns-preserved : goal.turns-turns-preserved
-turns-turns-preserved g t c = c.turns.invariant ∙ turn_next (next_by in_place c.args.self.now.limit) (turn_of (here c.args.self.now.program.now c.args.self.now.limit c.args.self.now.depth) (consumers_of c.args.consumers.now) (consumer_in (region_at c.args.region) (scope_of c.args.scope.now) c.args.l.now)) c.turns.left c.turns.cursor (seen c.turns.state) (seen c.next.new.state) (seen c.a_turn.new.state) c.in-Some.item (flow_of c.in_ok-flow.flow) (rw c.in-Some.is at c.in_ok-item.ensures) c.in_ok-flow.ensures (sym c.goes_on.ensures ∙ c.if-not-goes_on.false) (omega arith)
-
-pub turns-turns-preserved-else-left-eq0 : goal.turns-turns-preserved-else-left-eq0
-turns-turns-preserved-else-left-eq0 g t c = c.turns.invariant ∙ turn_next (next_by in_place c.args.self.now.limit) (turn_of (here c.args.self.now.program.now c.args.self.now.limit c.args.self.now.depth) (consumers_of c.args.consumers.now) (consumer_in (region_at c.args.region) (scope_of c.args.scope.now) c.args.l.now)) c.turns.left c.turns.cursor (seen c.turns.state) (seen c.next.new.state) (seen c.a_turn.new.state) c.in-Some.item (flow_of c.in_ok-flow.flow) (rw c.in-Some.is at c.in_ok-item.ensures) c.in_ok-flow.ensures (sym c.goes_on.ensures ∙ c.if-not-goes_on.false) (omega arith)
-
-pub turns-turns-preserved-else-left-eq0-2 : goal.turns-turns-preserved-else-left-eq0-2
-turns-turns-preserved-else-left-eq0-2 g t c = c.turns.invariant ∙ turn_next (next_by in_place c.args.self.now.limit) (turn_of (here c.args.self.now.program.now c.args.self.now.limit c.args.self.now.depth) (consumers_of c.args.consumers.now) (consumer_in (region_at c.args.region) (scope_of c.args.scope.now) c.args.l.now)) c.turns.left c.turns.cursor (seen c.turns.state) (seen c.next.new.state) (seen c.a_turn.new.state) c.in-Some.item (flow_of c.in_ok-flow.flow) (rw c.in-Some.is at c.in_ok-item.ensures) c.in_ok-flow.ensures (sym c.goes_on.ensures ∙ c.if-not-goes_on.false) (omega arith)
-
-pub turns-turns-preserved-else-left-eq0-3 : goal.turns-turns-preserved-else-left-eq0-3
-turns-turns-preserved-else-left-eq0-3 g t c = c.turns.invariant ∙ turn_next (next_by in_place c.args.self.now.limit) (turn_of (here c.args.self.now.program.now c.args.self.now.limit c.args.self.now.depth) (consumers_of c.args.consumers.now) (consumer_in (region_at c.args.region) (scope_of c.args.scope.now) c.args.l.now)) c.turns.left c.turns.cursor (seen c.turns.state) (seen c.next.new.state) (seen c.a_turn.new.state) c.in-Some.item (flow_of c.in_ok-flow.flow) (rw c.in-Some.is at c.in_ok-item.ensures) c.in_ok-flow.ensures (sym c.goes_on.ensures ∙ c.if-not-goes_on.false) (omega arith)
-
-pub loop_body-returns-in-Items : goal.loop_body-returns-in-Items
-loop_body-returns-in-Items g t c =
-    subst (λ (o : Outcome Flow). TellsFlow o c.turns.result c.turns.new.state)
-    (sym (ap (λ (i : Iterable). looped (here c.args.self.now.program.now c.args.self.now.limit c.args.self.now.depth) (consumers_of c.args.consumers.now) (iterable_of i) (consumer_in (region_at c.args.region) (scope_of c.args.scope.now) c.args.l.now) (seen c.args.state.now)) c.in-Items.is ∙ over_items (here c.args.self.now.program.now c.args.self.now.limit c.args.self.now.depth) (consumers_of c.args.consumers.now) (consumer_in (region_at c.args.region) (scope_of c.args.scope.now) c.args.l.now) c.in-Items.container (seen c.args.state.now)))
-    c.turns.ensures
-
-pub range_turns-returns-in-Ok : goal.range_turns-returns-in-Ok
-range_turns-returns-in-Ok g t c =
-    subst (λ (o : Outcome Flow). TellsFlow o c.turns.result c.turns.new.state)
-    (sym (over_numbers (here c.args.self.now.program.now c.args.self.now.limit c.args.self.now.depth) (consumers_of c.args.consumers.now) (consumer_in (region_at c.args.region) (scope_of c.args.scope.now) c.args.l.now) c.args.start.now c.args.stop.now c.args.step.now (seen c.args.state.now) (seen c.args.state.now) c.in-Ok.cursor c.in-Ok.ensures c.is_within.ensures))
-    c.turns.ensures
-
-pub range_turns-returns-in-Err : goal.range_turns-returns-in-Err
-range_turns-returns-in-Err g t c = λ n. over_none (here c.args.self.now.program.now c.args.self.now.limit c.args.self.now.depth) (consumers_of c.args.consumers.now) (consumer_in (region_at c.args.region) (scope_of c.args.scope.now) c.args.l.now) c.args.start.now c.args.stop.now c.args.step.now (seen c.args.state.now) (seen c.args.state.now) (why_of c.in-Err.e) (c.in-Err.ensures n)
+parallel_turns-returns-in_err-flow g t c =
+    let begins = (rw c.in-None.is at c.in_ok-entered.ensures) ∙ ap (λ (f : List Spelling). and_then (turns_from (here c.args.self.now.program.now c.args.self.now.limit c.args.self.now.depth) (turn_of (here c.args.self.now.program.now c.args.self.now.limit c.args.self.now.depth) (consumers_of c.args.consumers.now) (Parallel (region_of c.open_region.new.opened.region) (record (scope_of c.args.scope.now) { fixed = f }) c.args.l.now.names c.args.l.now.body)) c.open_region.new.cursor (seen c.open_region.new.state)) (region_ends c.open_region.new.opened.begun.outside c.open_region.new.opened.begun.reached)) (sym c.as_slice.ensures) in
+    let before = c.turns.invariant in
+    let next = by_turn (next_by in_place c.args.self.now.limit) (turn_of (here c.args.self.now.program.now c.args.self.now.limit c.args.self.now.depth) (consumers_of c.args.consumers.now) (Parallel (region_of c.open_region.new.opened.region) (record (scope_of c.args.scope.now) { fixed = c.as_slice.result.now }) c.args.l.now.names c.args.l.now.body)) c.turns.left c.turns.cursor (seen c.turns.state) (seen c.advance.new.state) (c.in-Some-2.v, c.advance.new.cursor) (rw c.in-Some-2.is at c.in_ok-v.ensures) in
+    grind (arith, common_steps, begins, before, next)

@@ -5,11 +5,13 @@ use Rattle.source_meaning.specs.Loops.{turns, while_next}
 use Rattle.source_meaning.specs.Cursors.{next_by}
 use Rattle.source_meaning.specs.Statements.{statements}
 use Rattle.source_meaning.specs.Meaning.{turn_of}
-use Rattle.source_meaning.specs.Steps.{chosen, while_of, turns_from}
+use Rattle.source_meaning.specs.Steps.{chosen, while_of, for_of, turns_from}
 use Rattle.source_meaning.specs.Seen.{seen}
 use Rattle.source_meaning.specs.Scopes.{scope_of}
-use Rattle.source_meaning.specs.Regions.{consumer_in}
-use Rattle.source_meaning.specs.Tasks.{here, consumers_of, region_at}
+use Rattle.source_meaning.specs.Outcome.{and_then}
+use Rattle.source_meaning.specs.Task.{Body, Parallel}
+use Rattle.source_meaning.specs.Tasks.{here, consumers_of, region_of}
+use Rattle.source_meaning.proofs.LoopEnds.{loop_ends}
 use Rattle.source_meaning.proofs.runner.Runner.+statement.Given as goal
 
 abbrev pub invariant-block-statements : goal.invariant-block-statements
@@ -31,11 +33,21 @@ invariant-while_loop-turns g l =
 abbrev pub decreases-while_loop-turns : goal.decreases-while_loop-turns
 decreases-while_loop-turns g l = l.left
 
-abbrev pub invariant-turns-turns : goal.invariant-turns-turns
-invariant-turns-turns g l =
+-- what the turns from the cursor on give, and how the loop ends then
+abbrev pub invariant-for_turns-turns : goal.invariant-for_turns-turns
+invariant-for_turns-turns g l =
     let at = here l.self.program.now l.self.limit l.self.depth in
-    let turn = turn_of at (consumers_of l.consumers) (consumer_in (region_at l.region) (scope_of l.scope) l.l) in
-    turns_from at turn l.fn.from (seen l.fn.state) ≡ turns (next_by in_place l.self.limit) turn (suc l.left) l.cursor (seen l.state)
+    let turn = turn_of at (consumers_of l.consumers) (Body (scope_of l.scope) l.l.names l.l.body) in
+    for_of at (consumers_of l.consumers) (scope_of l.scope) l.l (seen l.fn.state) ≡ and_then (turns (next_by in_place l.self.limit) turn (suc l.left) l.cursor (seen l.state)) loop_ends
 
-abbrev pub decreases-turns-turns : goal.decreases-turns-turns
-decreases-turns-turns g l = l.left
+abbrev pub decreases-for_turns-turns : goal.decreases-for_turns-turns
+decreases-for_turns-turns g l = l.left
+
+abbrev pub invariant-parallel_turns-turns : goal.invariant-parallel_turns-turns
+invariant-parallel_turns-turns g l =
+    let at = here l.self.program.now l.self.limit l.self.depth in
+    let turn = turn_of at (consumers_of l.consumers) (Parallel (region_of l.region) (scope_of l.inner) l.l.names l.l.body) in
+    turns_from at turn l.initial.cursor (seen l.initial.state) ≡ turns (next_by in_place l.self.limit) turn (suc l.left) l.cursor (seen l.state)
+
+abbrev pub decreases-parallel_turns-turns : goal.decreases-parallel_turns-turns
+decreases-parallel_turns-turns g l = l.left
