@@ -253,7 +253,10 @@ fn an_arm_is_no_node(rt: HostRuntime) -> Result<(), Fail> {
 fn arm(alloc: Global, brackets: u32) -> Result<Arm, Fail> {
     Ok(Arm {
         condition: leaf(alloc)?,
-        body: single(alloc, Stmt::Return(here(), Some(bracketed(alloc, brackets)?)))?,
+        body: single(
+            alloc,
+            Stmt::Return(here(), Some(bracketed(alloc, brackets)?)),
+        )?,
     })
 }
 
@@ -323,7 +326,10 @@ fn method(alloc: Global, brackets: u32) -> Result<Function, Fail> {
         name: name(alloc, here(), b"m")?,
         params: single(alloc, parameter(alloc, here(), b"self", None)?)?,
         result: Some(Annotation::Int(here())),
-        body: single(alloc, Stmt::Return(here(), Some(bracketed(alloc, brackets)?)))?,
+        body: single(
+            alloc,
+            Stmt::Return(here(), Some(bracketed(alloc, brackets)?)),
+        )?,
     })
 }
 
