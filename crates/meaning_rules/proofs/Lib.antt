@@ -1,0 +1,12 @@
+pub mod Closed
+pub mod ClosedObjects
+pub mod ClosedLoops
+pub mod ClosedExpressions
+pub mod ClosedPipelines
+pub mod ClosedStatements
+pub mod ClosedRuns
+pub mod Longer
+pub mod Fuel
+pub mod LawsHold
+pub mod Waiting
+pub mod Steady

@@ -1,0 +1,8 @@
+use Rattle.std.proofs.Common.{◌≡◌, ◌++◌, drop}
+use Rattle.std.specs.List.{flat_map}
+use Rattle.meaning_rules.specs.Mentions as spec
+use Rattle.plain_interpreter.specs.Noted.{noted, notes_of_comparison, notes_of_arm}
+use Rattle.plain_interpreter.proofs.mentions.note_each_name.Given as goal
+
+abbrev pub invariant-all : goal.invariant-all
+invariant-all l = noted l.fn.notes.items ++ flat_map spec.mention_name l.all ≡ noted l.notes.items ++ flat_map spec.mention_name (drop l.name-index l.all)

@@ -1,0 +1,8 @@
+use Rattle.std.proofs.Common.{◌≡◌, ◌++◌, drop}
+use Rattle.std.specs.List.{flat_map}
+use Rattle.meaning_rules.specs.Mentions as spec
+use Rattle.plain_interpreter.specs.Noted.{noted, notes_of_comparison, notes_of_arm}
+use Rattle.plain_interpreter.proofs.mentions.note_stages.Given as goal
+
+abbrev pub invariant-stages : goal.invariant-stages
+invariant-stages l = noted l.fn.notes.items ++ spec.notes_of_stages l.stages ≡ noted l.notes.items ++ spec.notes_of_stages (drop l.stage-index l.stages)

@@ -1,0 +1,9 @@
+use Rattle.codon_base.specs.declared.value.Value.{out-Value}
+use Rattle.meaning_rules.specs.Operations as spec
+use Rattle.codon_base.specs.Operators.{Sight}
+use Rattle.value_operators.specs.Answers.{made_of}
+use Rattle.plain_interpreter.proofs.Operated.{operated_tells}
+use Rattle.plain_interpreter.proofs.operations.unary.Goals as goal
+
+pub returns : goal.returns
+returns c = operated_tells c.args.state.now c.settled.new.state (λ (sight : Sight). spec.unary_made c.args.by (out-Value c.args.v.now)) (made_of c.in_ok-made.made) c.settled.result c.in_ok-made.ensures c.settled.ensures

@@ -1,0 +1,9 @@
+use Rattle.std.proofs.Common.{◌≡◌, ◌++◌, drop, map}
+use Rattle.std.specs.List.{flat_map, filter}
+use Rattle.plain_interpreter.specs.Noted.{noted}
+use Rattle.meaning_rules.specs.Captures as spec
+use Rattle.plain_interpreter.specs.Tasks.{callable_of}
+use Rattle.plain_interpreter.proofs.reach.push_reached.Given as goal
+
+abbrev pub invariant-ones : goal.invariant-ones
+invariant-ones l = noted l.fn.notes.items ++ spec.notes_of_reached (map callable_of l.ones) ≡ noted l.notes.items ++ spec.notes_of_reached (map callable_of (drop l.callable-index l.ones))

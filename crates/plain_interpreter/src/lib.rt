@@ -1,0 +1,53 @@
+//! An interpreter of trees that is proved to give what their source means, `run_plain`: plain, slow, and in little of the native stack. It knows nothing of types, machine code or threads.
+#![tactic(auto)]
+
+mod arguments;
+mod bodies;
+mod called;
+mod callee;
+mod calls;
+mod captures;
+mod changes;
+mod comparisons;
+mod comprehensions;
+mod cursor;
+mod entering;
+mod expressions;
+mod fields;
+mod flow;
+mod frames;
+mod iterable;
+mod iterables;
+mod iterations;
+mod lists;
+mod loops;
+mod mentions;
+mod methods;
+mod names;
+mod objects;
+mod operations;
+mod pipeline_heads;
+mod pipelines;
+mod plain;
+mod prepare;
+mod prepared;
+mod printing;
+mod ranges;
+mod reach;
+mod regions;
+mod returns;
+mod runner;
+mod scope;
+mod sight;
+mod simple;
+mod stage_calls;
+mod stage_loops;
+mod stage_regions;
+mod stages;
+mod state;
+mod statements;
+mod task;
+mod variables;
+mod words;
+
+pub use plain::{Plain, PlainEnd, run_plain};

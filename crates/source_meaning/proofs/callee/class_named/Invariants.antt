@@ -1,9 +1,0 @@
-use Rattle.std.proofs.Common.{◌≡◌, ◌<◌, ◌^◌, drop, length}
-use Rattle.source_meaning.specs.Program as spec
-use Rattle.source_meaning.specs.Callees.{classes_in}
-use Rattle.source_meaning.proofs.callee.class_named.Given as goal
-
-abbrev pub invariant-classes : goal.invariant-classes
-invariant-classes l =
-    ((other : spec.Callee) → spec.class_named l.name 0 (classes_in l.program.classes.items) other ≡ spec.class_named l.name l.number (classes_in (drop l.class-index l.program.classes.items)) other)
-    × (l.number ≡ l.class-index)

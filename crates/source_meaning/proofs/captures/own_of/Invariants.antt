@@ -1,9 +1,0 @@
-use Rattle.std.proofs.Common.{◌≡◌, ◌++◌, drop, map}
-use Rattle.std.specs.List.{flat_map, filter}
-use Rattle.source_meaning.specs.Captures as spec
-use Rattle.source_meaning.specs.Scopes.{scope_of}
-use Rattle.source_meaning.proofs.captures.own_of.Given as goal
-
-abbrev pub invariant-own : goal.invariant-own
-invariant-own l =
-    spec.own_of l.local (scope_of l.scope) l.own ≡ l.names ++ spec.own_of l.local (scope_of l.scope) (drop l.name-index l.own)

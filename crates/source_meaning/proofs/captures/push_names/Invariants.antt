@@ -1,7 +1,0 @@
-use Rattle.std.proofs.Common.{◌≡◌, ◌++◌, drop, map}
-use Rattle.std.specs.List.{flat_map, filter}
-use Rattle.source_meaning.proofs.captures.push_names.Given as goal
-
-abbrev pub invariant-more : goal.invariant-more
-invariant-more l =
-    l.fn.names ++ l.more ≡ l.names ++ drop l.name-index l.more

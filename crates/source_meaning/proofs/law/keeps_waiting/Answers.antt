@@ -1,5 +1,0 @@
-use Rattle.source_meaning.proofs.Waiting.{keeps_waiting as the_law}
-use Rattle.source_meaning.proofs.law.keeps_waiting.Goals as goal
-
-pub returns : goal.returns
-returns c = the_law c.args._module.now

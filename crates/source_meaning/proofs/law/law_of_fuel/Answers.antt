@@ -1,5 +1,0 @@
-use Rattle.source_meaning.proofs.LawsHold.{law as the_law}
-use Rattle.source_meaning.proofs.law.law_of_fuel.Goals as goal
-
-pub returns : goal.returns
-returns c = the_law c.args._module.now

@@ -1,5 +1,0 @@
-use Rattle.std.proofs.Common.{◌≡◌, take}
-use Rattle.source_meaning.proofs.lists.copied.Given as goal
-
-abbrev pub invariant-items : goal.invariant-items
-invariant-items l = l.copy ≡ take l.item-index l.items

@@ -1,8 +1,0 @@
-use Rattle.std.proofs.Common.{◌≡◌, ◌++◌, drop}
-use Rattle.std.specs.List.{flat_map}
-use Rattle.source_meaning.specs.Mentions as spec
-use Rattle.source_meaning.specs.Noted.{noted, notes_of_comparison, notes_of_arm}
-use Rattle.source_meaning.proofs.mentions.note_stages.Given as goal
-
-abbrev pub invariant-stages : goal.invariant-stages
-invariant-stages l = noted l.fn.notes.items ++ spec.notes_of_stages l.stages ≡ noted l.notes.items ++ spec.notes_of_stages (drop l.stage-index l.stages)

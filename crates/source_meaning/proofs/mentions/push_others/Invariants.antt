@@ -1,7 +1,0 @@
-use Rattle.std.proofs.Common.{◌≡◌, ◌++◌, drop}
-use Rattle.source_meaning.specs.Mentions as spec
-use Rattle.source_meaning.specs.Noted.{noted}
-use Rattle.source_meaning.proofs.mentions.push_others.Given as goal
-
-abbrev pub invariant-inner : goal.invariant-inner
-invariant-inner l = noted l.fn.notes.items ++ spec.but_of l.own (noted l.inner) ≡ noted l.notes.items ++ spec.but_of l.own (noted (drop l.note-index l.inner))

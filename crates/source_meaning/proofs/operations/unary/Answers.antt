@@ -1,9 +1,0 @@
-use Rattle.codon_base.specs.declared.value.Value.{out-Value}
-use Rattle.source_meaning.specs.Operations as spec
-use Rattle.codon_base.specs.Operators.{Sight}
-use Rattle.value_operators.specs.Answers.{made_of}
-use Rattle.source_meaning.proofs.Operated.{operated_tells}
-use Rattle.source_meaning.proofs.operations.unary.Goals as goal
-
-pub returns : goal.returns
-returns c = operated_tells c.args.state.now c.settled.new.state (λ (sight : Sight). spec.unary_made c.args.by (out-Value c.args.v.now)) (made_of c.in_ok-made.made) c.settled.result c.in_ok-made.ensures c.settled.ensures

@@ -1,4 +1,0 @@
-use Rattle.source_meaning.proofs.plain.+run_to.Given as goal
-
-abbrev pub decreases-run_to : goal.decreases-run_to
-decreases-run_to l = l.depth

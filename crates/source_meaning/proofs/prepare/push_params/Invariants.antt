@@ -1,7 +1,0 @@
-use Rattle.std.proofs.Common.{◌≡◌, ◌++◌, drop, map}
-use Rattle.std.specs.List.{flat_map}
-use Rattle.source_meaning.specs.Program as spec
-use Rattle.source_meaning.proofs.prepare.push_params.Given as goal
-
-abbrev pub invariant-params : goal.invariant-params
-invariant-params l = l.fn.names ++ spec.param_names l.params ≡ l.names ++ spec.param_names (drop l.param-index l.params)

@@ -1,8 +1,0 @@
-use Rattle.std.proofs.Common.{◌≡◌, drop}
-use Rattle.source_meaning.specs.Iterations.{in_place}
-use Rattle.source_meaning.specs.Pieces.{followed}
-use Rattle.source_meaning.specs.Seen.{seen}
-use Rattle.source_meaning.proofs.printing.followed.Given as goal
-
-abbrev pub invariant-values : goal.invariant-values
-invariant-values l = followed in_place l.fn.vs l.between l.fn.text (seen l.fn.state) ≡ followed in_place (drop l.v-index l.vs) l.between l.piece (seen l.state)

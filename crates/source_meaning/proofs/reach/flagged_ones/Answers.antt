@@ -1,9 +1,0 @@
-use Rattle.std.proofs.Common.{◌≡◌, ◌+◌, ◌++◌, ◌∙◌, ap, map}
-use Rattle.source_meaning.specs.Tasks.{callable_of}
-use Rattle.source_meaning.proofs.Rounds.{picked_more, joined}
-use Rattle.source_meaning.proofs.reach.flagged_ones.Goals as goal
-
-pub callables-preserved : goal.callables-preserved
-callables-preserved c =
-    let next = picked_more c.args.callables.now c.args.flags.now c.callables.callable-index c.callables.place c.callable-item.result c.callables.invariant.0 c.callables-test.true c.callable-item.is in
-    (ap (λ n. n + 1) c.callables.invariant.0, joined _ _ _ _ _ (c.callables.invariant.1 ∙ ap (λ l. map callable_of c.callables.ones.items ++ l) next) c.in_ok-push_flagged.ensures)

@@ -1,9 +1,0 @@
-use Rattle.std.proofs.Common.{◌≡◌, ◌++◌, drop, map}
-use Rattle.std.specs.List.{flat_map, filter}
-use Rattle.source_meaning.specs.Tasks.{callable_of}
-use Rattle.source_meaning.specs.Reaching.{picked}
-use Rattle.source_meaning.proofs.reach.flagged_ones.Given as goal
-
-abbrev pub invariant-callables : goal.invariant-callables
-invariant-callables l =
-    (l.place ≡ l.callable-index) × (picked (map callable_of l.callables) l.flags ≡ map callable_of l.ones.items ++ picked (map callable_of (drop l.callable-index l.callables)) (drop l.callable-index l.flags))

@@ -1,9 +1,0 @@
-use Rattle.std.proofs.Common.{◌≡◌, ◌++◌, drop, map}
-use Rattle.std.specs.List.{flat_map, filter}
-use Rattle.source_meaning.specs.Noted.{noted}
-use Rattle.source_meaning.specs.Captures as spec
-use Rattle.source_meaning.specs.Tasks.{callable_of}
-use Rattle.source_meaning.proofs.reach.push_outside.Given as goal
-
-abbrev pub invariant-ones : goal.invariant-ones
-invariant-ones l = noted l.fn.notes.items ++ flat_map spec.notes_outside (map callable_of l.ones) ≡ noted l.notes.items ++ flat_map spec.notes_outside (map callable_of (drop l.callable-index l.ones))

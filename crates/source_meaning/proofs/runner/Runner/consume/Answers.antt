@@ -1,5 +1,0 @@
-use Rattle.std.proofs.Common.{◌≡◌}
-use Rattle.source_meaning.proofs.runner.Runner.consume.Goals as goal
-
-pub returns-in-Parallel : goal.returns-in-Parallel
-returns-in-Parallel g c = rw c.in-Parallel.is c.parallel_turn.ensures

@@ -1,6 +1,0 @@
-use Rattle.std.proofs.Common.{◌∙◌}
-use Rattle.source_meaning.proofs.Held.{has_is}
-use Rattle.source_meaning.proofs.scope.Scope.has.Goals as goal
-
-pub returns : goal.returns
-returns c = c.has_local.ensures ∙ has_is c.args.name.now c.args.self.now

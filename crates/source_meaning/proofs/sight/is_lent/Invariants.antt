@@ -1,7 +1,0 @@
-use Rattle.std.proofs.Common.{◌≡◌, drop, map}
-use Rattle.source_meaning.specs.Iterations.{is_lent}
-use Rattle.source_meaning.specs.Seen.{iteration_of}
-use Rattle.source_meaning.proofs.sight.is_lent.Given as goal
-
-abbrev pub invariant-lent : goal.invariant-lent
-invariant-lent l = is_lent (map iteration_of l.iterations) l.at ≡ is_lent (map iteration_of (drop l.iteration-index l.iterations)) l.at

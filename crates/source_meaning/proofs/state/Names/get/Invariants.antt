@@ -1,6 +1,0 @@
-use Rattle.std.proofs.Common.{◌≡◌, drop}
-use Rattle.source_meaning.specs.Seen.{held_in}
-use Rattle.source_meaning.proofs.state.Names.get.Given as goal
-
-abbrev pub invariant-look : goal.invariant-look
-invariant-look l = held_in l.self.entries.items l.name ≡ held_in (drop l.entry-index l.entry-items) l.name
