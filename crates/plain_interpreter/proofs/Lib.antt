@@ -34,5 +34,6 @@ pub mod Apart
 pub mod Ahead
 pub mod Stepped
 pub mod Gathering
+pub mod Goings
 pub mod LoopEnds
 pub mod Passing

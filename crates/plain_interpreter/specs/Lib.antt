@@ -21,5 +21,6 @@ pub mod Regions
 pub mod Plain
 pub mod Entered
 pub mod Forms
+pub mod Goings
 pub mod Passed
 pub mod Gathered

@@ -119,6 +119,10 @@ module _ (here : Setting) (scope : Scope) where
   function_iterable known parts =
       if yields known.function.body then (exprs here scope parts >>= λ vs. pure (Generated known vs)) else items_of (exprs here scope parts >>= call here known)
 
+  -- a generator's items
+  abbrev pub generated : Known → List Expr → Run Iterable
+  generated known parts = exprs here scope parts >>= λ vs. pure (Generated known vs)
+
   abbrev pub class_iterable : ℕ → Class → List Expr → Run Iterable
   class_iterable number class parts = items_of (exprs here scope parts >>= construct here number class)
 

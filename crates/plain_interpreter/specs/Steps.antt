@@ -25,7 +25,7 @@ use Rattle.plain_interpreter.specs.declared.iterable.Iterable.{Iterable}
 use Rattle.plain_interpreter.specs.declared.iterable.Iterable.TheVariants as goes
 
 abbrev pub iterable_of : Iterable → loops.Iterable
-iterable_of (goes.Numbers start stop step) = loops.Numbers start stop step
+iterable_of (goes.Numbers numbers) = loops.Numbers numbers.value.start numbers.value.stop numbers.value.step
 iterable_of (goes.Items container) = loops.Items container
 iterable_of (goes.Generated called given) = loops.Generated (known_of called) given
 

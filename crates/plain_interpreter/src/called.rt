@@ -6,15 +6,17 @@ ghost use Rattle.meaning_rules.specs.Expressions as spec;
 ghost use Rattle.meaning_rules.specs.Iterations.{in_place};
 ghost use Rattle.plain_interpreter.specs.Lists.{called, standard};
 ghost use Rattle.meaning_rules.specs.Operations as operations;
-ghost use Rattle.meaning_rules.specs.Outcome.{bind, wrong};
+ghost use Rattle.meaning_rules.specs.Outcome.{and_then, bind, wrong};
 ghost use Rattle.meaning_rules.specs.Program.{ToList};
 ghost use Rattle.plain_interpreter.specs.Scopes.{scope_of};
-ghost use Rattle.plain_interpreter.specs.Seen.{seen, Tells};
+ghost use Rattle.plain_interpreter.specs.Seen.{seen, Tells, TellsBy};
+ghost use Rattle.plain_interpreter.specs.Steps.{iterable_of};
 ghost use Rattle.plain_interpreter.specs.Tasks.{Nests, here, known_of, program_of};
 ghost use Rattle.meaning_rules.specs.Variables.{read_name};
 
 use crate::callee::{Builtin, Callee, Numbered, resolve};
 use crate::flow::Flow;
+use crate::iterable::Iterable;
 use crate::operations::builtin;
 use crate::prepared::{Called, Prepared};
 use crate::runner::Runner;
@@ -57,7 +59,8 @@ impl<
             Callee::Unknown => Err(fault(self.alloc, FaultKind::Runtime, b"name is not set")),
             Callee::Defined(called) => self.called_function(state, scope, called, parts.as_slice()),
             Callee::Constructor(c) => self.called_class(state, scope, c, parts.as_slice()),
-            Callee::Standard(which) => self.standard(state, scope, which, parts.as_slice()),
+            Callee::Standard(Builtin::ToList) => self.listed(state, scope, parts.as_slice()),
+            Callee::Standard(which) => self.computed(state, scope, which, parts.as_slice()),
         }
     }
 
@@ -109,25 +112,6 @@ impl<
         self.construct(state, c, given)
     }
 
-    /// A builtin on what is written there.
-    #[cycle(expression)]
-    #[inline(never)]
-    pub(crate) fn standard(
-        &self,
-        state: &mut State,
-        scope: &Scope<'_>,
-        which: Builtin,
-        parts: &[Expr],
-    ) -> Result<Value, Stop>
-        requires { Nests self.now.program.now self.now.limit self.now.depth (F.pre self.now.low) (F.post self.now.low) }
-        ensures { Tells (standard (here self.now.program.now self.now.limit self.now.depth) (scope_of scope.now) (builtin_of which) parts.now (seen state.old)) result state.new }
-    {
-        match which {
-            Builtin::ToList => self.listed(state, scope, parts),
-            other => self.computed(state, scope, other, parts),
-        }
-    }
-
     /// A builtin on the values of what is written there.
     #[cycle(expression)]
     #[inline(never)]
@@ -155,7 +139,22 @@ impl<
         let [part] = parts else {
             return self.computed(state, scope, Builtin::ToList, parts);
         };
-        let goes_over = self.iterable(state, scope, part)?;
-        self.gathered(state, goes_over)
+        self.gathered_found(self.iterable(state, scope, part), state)
+    }
+
+    /// A list of the items of which this was found.
+    #[inline(never)]
+    fn gathered_found(
+        &self,
+        found: Result<Iterable<'m>, Stop>,
+        state: &mut State,
+    ) -> Result<Value, Stop>
+        requires { Nests self.now.program.now self.now.limit self.now.depth (F.pre self.now.low) (F.post self.now.low) }
+        ensures { (o : _) → TellsBy iterable_of o found.entry state.old → Tells (and_then o (spec.gathered (here self.now.program.now self.now.limit self.now.depth))) result state.new }
+    {
+        match found {
+            Ok(goes_over) => self.gathered(state, goes_over),
+            Err(why) => Err(why),
+        }
     }
 }

@@ -55,9 +55,9 @@ pub(crate) struct Gathering<'a> {
 /// The list of a comprehension that was filled; the names before it come back.
 #[inline(never)]
 fn finish(
+    filled: Result<(), Stop>,
     state: &mut State,
     begun: Box<Gathering<'_>>,
-    filled: Result<(), Stop>,
 ) -> Result<Value, Stop>
     ensures { (o : _) → TellsBy (λ _. Next) o filled state.old → Tells (ended begun.entry.value o) result state.new }
 {
@@ -73,7 +73,7 @@ fn finish(
 
 /// Whether a condition holds, of which this was found.
 #[inline(never)]
-fn holds(alloc: Global, state: &State, found: Result<Value, Stop>) -> Result<bool, Stop>
+fn holds(found: Result<Value, Stop>, alloc: Global, state: &State) -> Result<bool, Stop>
     ensures { (o : _) → Tells o found state.now → Tells (and_then o (objects.truth in_place)) result state.now }
 {
     match found {
@@ -111,48 +111,28 @@ impl<
         requires form { Comprehends e.now names.now iterable.now condition.now item.now }
         ensures { Tells (lists.comprehension (here self.now.program.now self.now.limit self.now.depth) (scope_of scope.now) names.now iterable.now condition.now item.now (seen state.old)) result state.new }
     {
-        let mut begun = self.begin_gathering(
+        let mut begun = self.gathering_over(
+            self.iterable(state, scope, iterable.get()),
             state,
             &*scope,
-            e,
-            iterable,
             &*names,
             &*item,
             &*condition,
         )?;
-        let filled = self.fill(state, scope, e, names, item, condition, &mut begun);
-        finish(state, begun, filled)
-    }
-
-    /// The beginning of a comprehension.
-    #[cycle(expression)]
-    #[inline(never)]
-    fn begin_gathering<'a>(
-        &self,
-        state: &mut State,
-        scope: &Scope<'a>,
-        e: &Expr,
-        iterable: &Boxed<Expr>,
-        names: &'a LoopNames,
-        item: &'a Boxed<Expr>,
-        condition: &'a Option<Boxed<Expr>>,
-    ) -> Result<Box<Gathering<'a>>, Stop>
-        requires nests { Nests self.now.program.now self.now.limit self.now.depth (F.pre self.now.low) (F.post self.now.low) }
-        requires form { Comprehends e.now names.now iterable.now condition.now item.now }
-        ensures inside { IfOk result (λ begun. HasNames begun.value.all.items names.now scope.now) }
-        ensures begun { TellsGathering (λ begun. begun.value) (lists.comprehension (here self.now.program.now self.now.limit self.now.depth) (scope_of scope.now) names.now iterable.now condition.now item.now (seen state.old)) (turns_of (here self.now.program.now self.now.limit self.now.depth) (scope_of scope.now) names.now condition.now item.now) result state.new }
-    {
-        let found = self.iterable(state, scope, iterable.get());
-        self.gathering_over(state, scope, found, names, item, condition)
+        finish(
+            self.fill(state, scope, e, names, item, condition, &mut begun),
+            state,
+            begun,
+        )
     }
 
     /// The beginning of a comprehension over what was found.
     #[inline(never)]
     fn gathering_over<'a>(
         &self,
+        found: Result<Iterable<'m>, Stop>,
         state: &mut State,
         scope: &Scope<'a>,
-        found: Result<Iterable<'m>, Stop>,
         names: &'a LoopNames,
         item: &'a Boxed<Expr>,
         condition: &'a Option<Boxed<Expr>>,
@@ -248,9 +228,14 @@ impl<
             )? {
                 return Ok(());
             }
-            if self.kept(state, &inner, condition)? {
-                let found = self.expr(state, &inner, item.get());
-                self.append_found(state, &begun.list, found)?;
+            let is_kept = match condition {
+                Some(condition) => {
+                    holds(self.expr(state, &inner, condition.get()), self.alloc, state)?
+                }
+                None => true,
+            };
+            if is_kept {
+                self.append_found(self.expr(state, &inner, item.get()), state, &begun.list)?;
             }
             if left == 0 {
                 return Err(Stop::OutOfFuel);
@@ -263,9 +248,9 @@ impl<
     #[inline(never)]
     fn append_found(
         &self,
+        found: Result<Value, Stop>,
         state: &mut State,
         list: &Value,
-        found: Result<Value, Stop>,
     ) -> Result<(), Stop>
         ensures { (o : _) → Tells o found state.old → TellsBy (λ _. Next) (and_then o (spec.append_to (here self.now.program.now self.now.limit self.now.depth) list.now)) result state.new }
     {
@@ -292,8 +277,7 @@ impl<
     {
         match e {
             Some(e) => {
-                let found = self.expr(state, scope, e.get());
-                holds(self.alloc, state, found)
+                holds(self.expr(state, scope, e.get()), self.alloc, state)
             }
             None => Ok(true),
         }

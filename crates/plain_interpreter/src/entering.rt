@@ -56,8 +56,14 @@ impl<
                 *cursor = Cursor::Item(container, 0);
                 Ok(None)
             }
-            Iterable::Numbers(start, stop, step) => {
-                match begun(self.alloc, state, &start, &stop, &step) {
+            Iterable::Numbers(numbers) => {
+                match begun(
+                    self.alloc,
+                    state,
+                    &numbers.start,
+                    &numbers.stop,
+                    &numbers.step,
+                ) {
                     Ok(from) => {
                         is_within(&from);
                         *cursor = from;

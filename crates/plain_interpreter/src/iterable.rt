@@ -1,10 +1,18 @@
 use crate::prepared::Called;
 use codon_base::{Value, Values};
 
-/// What a loop goes over: the numbers of a range by its start, stop and step, the items of a list or a text, or those of a call of a generator.
+/// A range by its start, stop and step.
+#[derive(Drop)]
+pub(crate) struct Numbers {
+    pub(crate) start: Value,
+    pub(crate) stop: Value,
+    pub(crate) step: Value,
+}
+
+/// What a loop goes over: the numbers of a range, the items of a list or a text, or those of a call of a generator.
 #[derive(Drop)]
 pub(crate) enum Iterable<'m> {
-    Numbers(Value, Value, Value),
+    Numbers(Box<Numbers>),
     Items(Value),
     Generated(Called<'m>, Values),
 }

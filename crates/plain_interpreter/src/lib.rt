@@ -16,6 +16,7 @@ mod expressions;
 mod fields;
 mod flow;
 mod frames;
+mod going;
 mod iterable;
 mod iterables;
 mod iterations;

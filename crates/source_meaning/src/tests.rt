@@ -1,7 +1,15 @@
 mod build;
+mod depths;
+mod expressions;
+mod functions;
+mod generators;
+mod lists;
+mod names;
 mod pipelines;
+mod regions;
 mod stack;
 mod statements;
+mod ticks;
 
 use crate::{PlainEnd, run_plain};
 use build::Trees;

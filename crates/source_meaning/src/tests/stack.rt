@@ -14,6 +14,9 @@ enum Nested {
     Listed,
     Argument,
     Item,
+    Iterable,
+    Condition,
+    Gathered,
     Chain,
 }
 
@@ -36,6 +39,9 @@ impl<'a, R: Abort> Trees<'a, R> {
             Nested::Listed => self.list([e]),
             Nested::Argument => self.call("len", [e]),
             Nested::Item => self.each(e, self.one("x"), self.call("range", [self.int(1)])),
+            Nested::Iterable => self.each(self.int(1), self.one("x"), e),
+            Nested::Condition => self.each_if(self.int(1), self.one("x"), self.call("range", [self.int(1)]), e),
+            Nested::Gathered => self.call("list", [e]),
             Nested::Chain => {
                 let part = Expr::Bracketed(NODE, self.part(e));
                 self.compare(self.int(0), [than(Comparator::Less, part)])
@@ -121,6 +127,9 @@ fn nested_expressions_stay_within_the_native_stack(rt: HostRuntime) -> Result<()
         Nested::Listed,
         Nested::Argument,
         Nested::Item,
+        Nested::Iterable,
+        Nested::Condition,
+        Nested::Gathered,
         Nested::Chain,
     ] {
         let e = t.below(form, t.call("f", []));
@@ -149,7 +158,12 @@ fn loops_over_nested_expressions_stay_within_the_native_stack(rt: HostRuntime) -
         rt: &rt,
         alloc: rt.alloc(),
     };
-    for form in [Nested::Listed, Nested::Item] {
+    for form in [
+        Nested::Listed,
+        Nested::Item,
+        Nested::Iterable,
+        Nested::Gathered,
+    ] {
         let e = t.below(form, t.call("f", []));
         let f = t.function("f", [], [t.over(t.one("x"), e, [Stmt::Pass(NODE)])]);
         expect(&t, t.calls([t.idle(), f]), DEEPEST)?;
