@@ -118,6 +118,10 @@ pub condition_found : (here : Setting) (scope : Scope) (kept : Option Expr) (e x
 unfolding bind
 condition_found here scope kept e x s k g = ap (λ (d : Option Expr). condition_of here scope d s) k ∙ ap (λ (d : Expr). and_then (expr here scope d s) (truth here.rules)) (sym g)
 
+pub condition_none : (here : Setting) (scope : Scope) (kept : Option Expr) (s : State) → kept ≡ None → condition_of here scope kept s ≡ Gives true s
+unfolding pure
+condition_none here scope kept s k = ap (λ (d : Option Expr). condition_of here scope d s) k
+
 pub comprehension_found : (here : Setting) (scope : Scope) (names : LoopNames) (goes x : Expr) (kept : Option Expr) (item : Expr) (s : State) → x ≡ goes
     → comprehension here scope names goes kept item s ≡ and_then (iterable here scope x s) (λ goes_over. comprehended_of here scope names goes_over kept item)
 unfolding bind

@@ -264,7 +264,6 @@ impl<
     }
 
     /// The condition of a comprehension, which holds where it is not written.
-    #[cycle(expression)]
     #[inline(never)]
     fn kept(
         &self,

@@ -10,7 +10,7 @@ ghost use Rattle.plain_interpreter.specs.Steps.{iterable_of};
 ghost use Rattle.plain_interpreter.specs.Tasks.{Nests, here, known_of};
 
 use crate::flow::Flow;
-use crate::going::{Going, going};
+use crate::goes::{Going, goes_as};
 use crate::iterable::Iterable;
 use crate::prepared::{Called, Prepared};
 use crate::ranges::range_of;
@@ -48,7 +48,7 @@ impl<
         ensures { TellsBy iterable_of (spec.iterable (here self.now.program.now self.now.limit self.now.depth) (scope_of scope.now) e.now (seen state.old)) result state.new }
     {
         match e {
-            Expr::Call(_, name, parts) => match going(self.program, scope, &name.spelling) {
+            Expr::Call(_, name, parts) => match goes_as(self.program, scope, &name.spelling) {
                 Going::Range => self.range(state, scope, parts.as_slice()),
                 Going::Generator(called) => {
                     self.generated(state, scope, called, parts.as_slice())

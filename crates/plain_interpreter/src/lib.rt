@@ -16,7 +16,7 @@ mod expressions;
 mod fields;
 mod flow;
 mod frames;
-mod going;
+mod goes;
 mod iterable;
 mod iterables;
 mod iterations;

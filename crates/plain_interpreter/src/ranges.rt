@@ -14,7 +14,7 @@ use std::alloc::Global;
 
 /// The numbers of a range.
 fn numbers<'m>(alloc: Global, start: Value, stop: Value, step: Value) -> Result<Iterable<'m>, Memory>
-    ensures { IfOk result (λ goes_over. iterable_of goes_over ≡ loops.Numbers start.entry stop.entry step.entry) }
+    ensures { IfOk result (λ goes_over. iterable_of goes_over ≡ loops.Numbers start stop step) }
 {
     let numbers = Box::new(alloc, Numbers { start, stop, step })?;
     Ok(Iterable::Numbers(numbers))

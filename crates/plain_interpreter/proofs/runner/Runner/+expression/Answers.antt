@@ -1,4 +1,4 @@
-use Rattle.std.proofs.Common.{◌≡◌, ◌+◌, ◌++◌, ◌∷◌, [], List, drop, rules, arith, ap, sym, ◌∙◌, subst, ◌≢◌, ℕ, suc, ◌-◌, Bool, true, false, Option, Some, None, refl, Box, Global}
+use Rattle.std.proofs.Common.{◌≡◌, ◌+◌, ◌++◌, ◌∷◌, [], List, drop, rules, arith, ap, sym, ◌∙◌, subst, ◌≢◌, ℕ, suc, ◌-◌, Bool, true, false, Option, Some, None, refl}
 use Rattle.std.proofs.lemmas.Grind.{common_steps}
 use Rattle.meaning_rules.specs.Expressions as spec
 use Rattle.std.specs.Borrow.{Bor}
@@ -17,11 +17,12 @@ use Rattle.meaning_rules.specs.Task.{Comprehension}
 use Rattle.plain_interpreter.specs.declared.iterable.Iterable.{Iterable}
 use Rattle.plain_interpreter.specs.Seen.{seen, flow_of, why_of, Tells, TellsBy, TellsFlow}
 use Rattle.plain_interpreter.specs.Scopes.{scope_of}
-use Rattle.plain_interpreter.specs.Tasks.{here}
+use Rattle.plain_interpreter.specs.Tasks.{here, known_of}
 use Rattle.plain_interpreter.proofs.Parts.{exprs_begin, some_next, some_end, all_next, all_end, chain_more}
-use Rattle.plain_interpreter.proofs.Equations.{expr_Name, expr_Number, expr_Text, expr_True, expr_False, expr_None, expr_Bracketed, expr_Tuple, expr_List, expr_Conditional, expr_Or, expr_And, expr_Not, expr_Unary, expr_Binary, expr_MethodCall, expr_Index, expr_Comprehension, expr_Compare, expr_Call, expr_Slice, expr_Field, iterable_Call, iterable_MethodCall, iterable_other}
+use Rattle.plain_interpreter.proofs.Equations.{expr_Name, expr_Number, expr_Text, expr_True, expr_False, expr_None, expr_Bracketed, expr_Tuple, expr_List, expr_Conditional, expr_Or, expr_And, expr_Not, expr_Unary, expr_Binary, expr_MethodCall, expr_Index, expr_Comprehension, expr_Compare, expr_Call, expr_Slice, expr_Field, iterable_MethodCall, iterable_other}
 use Rattle.plain_interpreter.proofs.Turns.{loop_begins, turn_next}
-use Rattle.plain_interpreter.proofs.Gathering.{inner_scope, filling_begins, body, is_passed, stepped_on, ended_same, item_found, condition_found, comprehension_found}
+use Rattle.plain_interpreter.proofs.Goings.{range_is, generator_is, value_is}
+use Rattle.plain_interpreter.proofs.Gathering.{inner_scope, filling_begins, body, is_passed, stepped_on, ended_same, item_found, condition_found, condition_none, comprehension_found}
 use Rattle.codon_base.specs.declared.value.Value.{Value}
 use Rattle.plain_interpreter.specs.Collected.{collect}
 use Rattle.plain_interpreter.proofs.Rest.{after, collect_next, collect_end}
@@ -34,7 +35,7 @@ use Rattle.plain_interpreter.specs.Entered.{stepped}
 use Rattle.plain_interpreter.specs.Gathered.{HasNames, filling, turns_of, ended, TellsGathering}
 use Rattle.plain_interpreter.proofs.Stepped.{body_next}
 use Rattle.plain_interpreter.proofs.runner.Runner.+expression.Goals as goal
-use Rattle.plain_interpreter.proofs.runner.Runner.+expression.Goals.{fill-then-branch+in_ok-append_found, fill-else-branch}
+use Rattle.plain_interpreter.proofs.runner.Runner.+expression.Goals.{fill-then-is_kept+in_ok-append_found, fill-else-is_kept, fill-in-Some+in_ok-is_kept-in-Some, fill-in-None}
 
 pub exprs-items-init : goal.exprs-items-init
 exprs-items-init g t c =
@@ -155,17 +156,21 @@ expr-returns-in-Or g t c = subst (λ (o : Outcome Value). Tells o c.some_true.re
 pub expr-returns-in-And : goal.expr-returns-in-And
 expr-returns-in-And g t c = subst (λ (o : Outcome Value). Tells o c.all_true.result c.all_true.new.state) (sym (ap (λ d. spec.expr (here c.args.self.now.program.now c.args.self.now.limit c.args.self.now.depth) (scope_of c.args.scope.now) d (seen c.args.state.now)) c.in-And.is ∙ expr_And (here c.args.self.now.program.now c.args.self.now.limit c.args.self.now.depth) _ _ (scope_of c.args.scope.now) (seen c.args.state.now) ∙ ap (λ d. lists.all_true (here c.args.self.now.program.now c.args.self.now.limit c.args.self.now.depth) (scope_of c.args.scope.now) d (seen c.args.state.now)) (sym c.as_slice-in-And.ensures))) c.all_true.ensures
 
-pub iterable-returns-in-Call : goal.iterable-returns-in-Call
-iterable-returns-in-Call g t c = subst (λ (o : Outcome loops.Iterable). TellsBy iterable_of o c.called_iterable.result c.called_iterable.new.state) (sym (ap (λ d. spec.iterable (here c.args.self.now.program.now c.args.self.now.limit c.args.self.now.depth) (scope_of c.args.scope.now) d (seen c.args.state.now)) c.in-Call.is ∙ iterable_Call (here c.args.self.now.program.now c.args.self.now.limit c.args.self.now.depth) _ _ _ (scope_of c.args.scope.now) (seen c.args.state.now))) c.called_iterable.ensures
+pub iterable-returns-in-Range : goal.iterable-returns-in-Range
+iterable-returns-in-Range g t c = subst (λ (o : Outcome loops.Iterable). TellsBy iterable_of o c.range.result c.range.new.state) (sym (ap (λ d. spec.iterable (here c.args.self.now.program.now c.args.self.now.limit c.args.self.now.depth) (scope_of c.args.scope.now) d (seen c.args.state.now)) c.in-Call.is ∙ range_is (here c.args.self.now.program.now c.args.self.now.limit c.args.self.now.depth) (scope_of c.args.scope.now) c.in-Call.name c.in-Call.parts (seen c.args.state.now) _ (rw c.in-Range.is at c.goes_as.ensures) ∙ ap (λ d. bind (spec.exprs (here c.args.self.now.program.now c.args.self.now.limit c.args.self.now.depth) (scope_of c.args.scope.now) d) spec.range_of (seen c.args.state.now)) (sym c.as_slice.ensures))) c.range.ensures
+
+pub iterable-returns-in-Generator : goal.iterable-returns-in-Generator
+iterable-returns-in-Generator g t c = subst (λ (o : Outcome loops.Iterable). TellsBy iterable_of o c.generated.result c.generated.new.state) (sym (ap (λ d. spec.iterable (here c.args.self.now.program.now c.args.self.now.limit c.args.self.now.depth) (scope_of c.args.scope.now) d (seen c.args.state.now)) c.in-Call.is ∙ generator_is (here c.args.self.now.program.now c.args.self.now.limit c.args.self.now.depth) (scope_of c.args.scope.now) c.in-Call.name c.in-Call.parts (seen c.args.state.now) _ _ (rw c.in-Generator.is at c.goes_as.ensures).0 (rw c.in-Generator.is at c.goes_as.ensures).1 ∙ ap (λ d. lists.generated (here c.args.self.now.program.now c.args.self.now.limit c.args.self.now.depth) (scope_of c.args.scope.now) (known_of c.in-Generator.called) d (seen c.args.state.now)) (sym c.as_slice-in-Generator.ensures))) c.generated.ensures
+
+pub iterable-returns-in-Value : goal.iterable-returns-in-Value
+iterable-returns-in-Value g t c = subst (λ (o : Outcome loops.Iterable). TellsBy iterable_of o c.value_iterable.result c.value_iterable.new.state) (sym (ap (λ d. spec.iterable (here c.args.self.now.program.now c.args.self.now.limit c.args.self.now.depth) (scope_of c.args.scope.now) d (seen c.args.state.now)) c.in-Call.is ∙ value_is (here c.args.self.now.program.now c.args.self.now.limit c.args.self.now.depth) (scope_of c.args.scope.now) c.in-Call.name c.in-Call.parts (seen c.args.state.now) _ (rw c.in-Value.is at c.goes_as.ensures) ∙ ap (λ d. spec.items_of (spec.expr (here c.args.self.now.program.now c.args.self.now.limit c.args.self.now.depth) (scope_of c.args.scope.now) d) (seen c.args.state.now)) (sym c.in-Call.is))) c.value_iterable.ensures
+
+pub iterable-returns-in_default : goal.iterable-returns-in_default
+unfolding bind pure
+iterable-returns-in_default g t c = subst (λ (o : Outcome loops.Iterable). TellsBy iterable_of o c.value_iterable-in_default.result c.value_iterable-in_default.new.state) (sym (iterable_other (here c.args.self.now.program.now c.args.self.now.limit c.args.self.now.depth) (scope_of c.args.scope.now) (seen c.args.state.now) c.args.e.now (c.in_default.not-Call, c.in_default.not-MethodCall))) c.value_iterable-in_default.ensures
 
 pub iterable-returns-in-MethodCall : goal.iterable-returns-in-MethodCall
 iterable-returns-in-MethodCall g t c = subst (λ (o : Outcome loops.Iterable). TellsBy iterable_of o c.method_iterable.result c.method_iterable.new.state) (sym (ap (λ d. spec.iterable (here c.args.self.now.program.now c.args.self.now.limit c.args.self.now.depth) (scope_of c.args.scope.now) d (seen c.args.state.now)) c.in-MethodCall.is ∙ iterable_MethodCall (here c.args.self.now.program.now c.args.self.now.limit c.args.self.now.depth) _ _ _ _ _ (scope_of c.args.scope.now) (seen c.args.state.now))) c.method_iterable.ensures
-
-pub value_iterable-returns-in-Ok : goal.value_iterable-returns-in-Ok
-value_iterable-returns-in-Ok g t c = iterable_other (here c.args.self.now.program.now c.args.self.now.limit c.args.self.now.depth) (scope_of c.args.scope.now) (seen c.args.state.now) c.args.e.now c.requires.form ∙ ap (λ (o : Outcome Value). and_then o (λ container s. Gives (loops.Items container) s)) c.in-Ok.ensures
-
-pub value_iterable-returns-in-Err : goal.value_iterable-returns-in-Err
-value_iterable-returns-in-Err g t c = λ n. iterable_other (here c.args.self.now.program.now c.args.self.now.limit c.args.self.now.depth) (scope_of c.args.scope.now) (seen c.args.state.now) c.args.e.now c.requires.form ∙ ap (λ (o : Outcome Value). and_then o (λ container s. Gives (loops.Items container) s)) (c.in-Err.ensures n)
 
 pub chain-chain-preserved : goal.chain-chain-preserved
 chain-chain-preserved g t c =
@@ -174,11 +179,11 @@ chain-chain-preserved g t c =
 pub comprehended-returns : goal.comprehended-returns
 comprehended-returns g t c =
     let at = here c.args.self.now.program.now c.args.self.now.limit c.args.self.now.depth in
-    let done = c.finish.ensures (filling (turns_of at (scope_of c.args.scope.now) c.args.names.now c.args.condition.now c.args.item.now) c.deref_mut.result.now (seen c.begin_gathering.new.state)) c.fill-filled.ensures.filled in
+    let done = c.finish.ensures (filling (turns_of at (scope_of c.args.scope.now) c.args.names.now c.args.condition.now c.args.item.now) c.deref_mut.result.now (seen c.gathering_over.new.state)) c.fill.ensures.filled in
     subst (λ (o : Outcome Value). Tells o c.finish.result c.finish.new.state)
-    (ended_same c.deref_mut.result.now c.fill-filled.new.begun (filling (turns_of at (scope_of c.args.scope.now) c.args.names.now c.args.condition.now c.args.item.now) c.deref_mut.result.now (seen c.begin_gathering.new.state)) c.fill-filled.ensures.same
-    ∙ ap (λ (b : Gathering). ended b (filling (turns_of at (scope_of c.args.scope.now) c.args.names.now c.args.condition.now c.args.item.now) b (seen c.begin_gathering.new.state))) c.deref_mut.ensures.value
-    ∙ sym c.in_ok-begun.ensures.begun)
+    (ended_same c.deref_mut.result.now c.fill.new.begun (filling (turns_of at (scope_of c.args.scope.now) c.args.names.now c.args.condition.now c.args.item.now) c.deref_mut.result.now (seen c.gathering_over.new.state)) c.fill.ensures.same
+    ∙ ap (λ (b : Gathering). ended b (filling (turns_of at (scope_of c.args.scope.now) c.args.names.now c.args.condition.now c.args.item.now) b (seen c.gathering_over.new.state))) c.deref_mut.ensures.value
+    ∙ sym (comprehension_found at (scope_of c.args.scope.now) c.args.names.now c.args.iterable.now c.get.result.now c.args.condition.now c.args.item.now (seen c.args.state.now) c.get.ensures ∙ c.in_ok-begun.ensures.begun (spec.iterable at (scope_of c.args.scope.now) c.get.result.now (seen c.args.state.now)) c.iterable.ensures))
     done
 
 pub fill-turns-init : goal.fill-turns-init
@@ -195,25 +200,15 @@ fill-turns-preserved g t c =
     let at = here c.args.self.now.program.now c.args.self.now.limit c.args.self.now.depth in
     let inner = scope_of (record { inner = c.deref.result; locals = c.args.scope.now.locals; fixed = c.args.scope.now.fixed; in_prelude = c.args.scope.now.in_prelude }) in
     let made = stepped_on (stepped inner c.args.names.now in_place c.args.self.now.limit c.turns.begun.1.1.1.1.0 (seen c.turns.state)) c.in_ok-step.field-0 c.step.new.cursor c.step.new.state c.if-not-branch.false c.in_ok-step.ensures in
-    let turned : body at inner c.args.condition.now c.args.item.now c.turns.begun.1.1.0 (seen c.step.new.state) ≡ Gives Next (seen c.if-branch.state) = elim c.if-branch.branch [
-      | fill-then-branch+in_ok-append_found w ↦ item_found at inner c.args.condition.now c.args.item.now c.turns.begun.1.1.0 (seen c.step.new.state) (seen c.kept.new.state) (spec.expr at inner w.get.result.now (seen c.kept.new.state)) (Gives Next (seen w.append_found.new.state)) (subst (λ (t : Bool). condition_of at inner c.args.condition.now (seen c.step.new.state) ≡ Gives t (seen c.kept.new.state)) w.if-branch.true c.in_ok-kept.ensures) (ap (λ (e : Expr). spec.expr at inner e (seen c.kept.new.state)) (sym w.get.ensures)) (w.in_ok-append_found.ensures (spec.expr at inner w.get.result.now (seen c.kept.new.state)) w.expr-found.ensures) ∙ ap (λ (s : code.State). Gives Next (seen s)) (sym w.state-is)
-      | fill-else-branch w ↦ is_passed at inner c.args.condition.now c.args.item.now c.turns.begun.1.1.0 (seen c.step.new.state) (seen c.kept.new.state) (subst (λ (t : Bool). condition_of at inner c.args.condition.now (seen c.step.new.state) ≡ Gives t (seen c.kept.new.state)) w.if-branch.false c.in_ok-kept.ensures) ∙ ap (λ (s : code.State). Gives Next (seen s)) (sym w.state-is)
+    let held : condition_of at inner c.args.condition.now (seen c.step.new.state) ≡ Gives c.match-condition.is_kept (seen c.match-condition.state) = elim c.match-condition.branch [
+      | fill-in-Some+in_ok-is_kept-in-Some w ↦ condition_found at inner c.args.condition.now w.in-Some.condition w.get.result.now (seen c.step.new.state) w.in-Some.is w.get.ensures ∙ w.in_ok-is_kept-in-Some.ensures (spec.expr at inner w.get.result.now (seen c.step.new.state)) w.expr.ensures ∙ (λ i. Gives (sym w.is_kept-is i) (seen (sym w.state-is i)))
+      | fill-in-None w ↦ condition_none at inner c.args.condition.now (seen c.step.new.state) w.in-None.is ∙ (λ i. Gives (sym w.is_kept-is i) (seen (sym w.state-is i)))
+    ] in
+    let turned : body at inner c.args.condition.now c.args.item.now c.turns.begun.1.1.0 (seen c.step.new.state) ≡ Gives Next (seen c.if-is_kept.state) = elim c.if-is_kept.branch [
+      | fill-then-is_kept+in_ok-append_found w ↦ item_found at inner c.args.condition.now c.args.item.now c.turns.begun.1.1.0 (seen c.step.new.state) (seen c.match-condition.state) (spec.expr at inner w.get-then-is_kept.result.now (seen c.match-condition.state)) (Gives Next (seen w.append_found.new.state)) (subst (λ (t : Bool). condition_of at inner c.args.condition.now (seen c.step.new.state) ≡ Gives t (seen c.match-condition.state)) w.if-is_kept.true held) (ap (λ (e : Expr). spec.expr at inner e (seen c.match-condition.state)) (sym w.get-then-is_kept.ensures)) (w.in_ok-append_found.ensures (spec.expr at inner w.get-then-is_kept.result.now (seen c.match-condition.state)) w.expr-then-is_kept.ensures) ∙ ap (λ (s : code.State). Gives Next (seen s)) (sym w.state-is)
+      | fill-else-is_kept w ↦ is_passed at inner c.args.condition.now c.args.item.now c.turns.begun.1.1.0 (seen c.step.new.state) (seen c.match-condition.state) (subst (λ (t : Bool). condition_of at inner c.args.condition.now (seen c.step.new.state) ≡ Gives t (seen c.match-condition.state)) w.if-is_kept.false held) ∙ ap (λ (s : code.State). Gives Next (seen s)) (sym w.state-is)
     ] in
     record {
       same = ap (λ (v : Value). record c.args.begun.now { list = v; cursor = c.step.new.cursor }) (ap (λ (b : Gathering). b.list) c.turns.invariant.same);
-      rest = c.turns.invariant.rest ∙ body_next in_place c.args.self.now.limit inner c.args.names.now (body at inner c.args.condition.now c.args.item.now c.turns.begun.1.1.0) c.turns.left c.turns.begun.1.1.1.1.0 c.step.new.cursor (seen c.turns.state) (seen c.step.new.state) (seen c.if-branch.state) Next made turned refl (omega arith);
+      rest = c.turns.invariant.rest ∙ body_next in_place c.args.self.now.limit inner c.args.names.now (body at inner c.args.condition.now c.args.item.now c.turns.begun.1.1.0) c.turns.left c.turns.begun.1.1.1.1.0 c.step.new.cursor (seen c.turns.state) (seen c.step.new.state) (seen c.if-is_kept.state) Next made turned refl (omega arith);
     }
-
-pub kept-returns-in-Some : goal.kept-returns-in-Some
-kept-returns-in-Some g t c =
-    let at = here c.args.self.now.program.now c.args.self.now.limit c.args.self.now.depth in
-    subst (λ (o : Outcome Bool). Tells o c.holds.result c.expr-found.new.state)
-    (sym (condition_found at (scope_of c.args.scope.now) c.args.e.now c.in-Some.e c.get.result.now (seen c.args.state.now) c.in-Some.is c.get.ensures))
-    (c.holds.ensures (spec.expr at (scope_of c.args.scope.now) c.get.result.now (seen c.args.state.now)) c.expr-found.ensures)
-
-pub begin_gathering-returns-clause-begun : goal.begin_gathering-returns-clause-begun
-begin_gathering-returns-clause-begun g t c =
-    let at = here c.args.self.now.program.now c.args.self.now.limit c.args.self.now.depth in
-    subst (λ (o : Outcome Value). TellsGathering {B = Box Gathering Global} (λ begun. begun.value) o (turns_of at (scope_of c.args.scope.now) c.args.names.now c.args.condition.now c.args.item.now) c.gathering_over.result c.gathering_over.new.state)
-    (sym (comprehension_found at (scope_of c.args.scope.now) c.args.names.now c.args.iterable.now c.get.result.now c.args.condition.now c.args.item.now (seen c.args.state.now) c.get.ensures))
-    (c.gathering_over.ensures.begun (spec.iterable at (scope_of c.args.scope.now) c.get.result.now (seen c.args.state.now)) c.iterable-found.ensures)

@@ -17,7 +17,7 @@ pub(crate) enum Going<'m> {
     Generator(Called<'m>),
 }
 
-fn going_by(callee: Callee<'_>) -> Going<'_>
+fn goes_by(callee: Callee<'_>) -> Going<'_>
     ensures { Goes (callee_of callee.entry) result }
 {
     match callee {
@@ -34,12 +34,12 @@ fn going_by(callee: Callee<'_>) -> Going<'_>
 
 /// What a loop goes over that a call of this name gives.
 #[inline(never)]
-pub(crate) fn going<'m>(
+pub(crate) fn goes_as<'m>(
     program: &'m Prepared<'m>,
     scope: &Scope<'_>,
     name: &Spelling,
 ) -> Going<'m>
     ensures { Goes (spec.callee (program_of program.now) (scope_of scope.now) name.now) result }
 {
-    going_by(resolve(program, scope, name))
+    goes_by(resolve(program, scope, name))
 }
