@@ -1,5 +1,5 @@
 -- What came of a run is what the interpreter answers.
-use Rattle.std.proofs.Common.{◌≡◌, ℕ, List, Ok, Err, Result, refl, sym, subst}
+use Rattle.std.proofs.Common.{◌≡◌, ℕ, List, Ok, Err, Result, sym, subst}
 use Rattle.meaning_rules.specs.State as meaning
 use Rattle.meaning_rules.specs.Outcome.{Outcome}
 use Rattle.plain_interpreter.specs.Seen.{seen, TellsFlow}

@@ -1,5 +1,5 @@
 -- Regions and their iterations, step by step as the interpreter takes them.
-use Rattle.std.proofs.Common.{◌≡◌, ◌<◌, ℕ, Bool, List, length, Result, Ok, Err, OnOk, refl, sym, ap, ◌∙◌, subst, arith}
+use Rattle.std.proofs.Common.{◌≡◌, ◌<◌, ℕ, Bool, List, length, Result, Ok, Err, OnOk, sym, ap, ◌∙◌, subst, arith}
 use Rattle.codon_base.specs.declared.value.Value.{Value}
 use Rattle.source_trees.specs.declared.statement.LoopNames.{LoopNames}
 use Rattle.source_trees.specs.declared.statement.Stmt.{Stmt}
@@ -15,7 +15,6 @@ use Rattle.meaning_rules.specs.Iterations.{in_place}
 use Rattle.plain_interpreter.specs.Inside.{Saved, entering, leaving, from_zero, finishing}
 use Rattle.meaning_rules.specs.Meaning.{turn_of}
 use Rattle.plain_interpreter.specs.Stages.{staged_ahead}
-use Rattle.plain_interpreter.specs.Regions.{staged_apart}
 use Rattle.plain_interpreter.specs.Tasks.{program_of, lower, here}
 use Rattle.plain_interpreter.specs.Seen.{seen, flow_of, why_of, TellsFlow}
 use Rattle.plain_interpreter.specs.Entered.{TellsTurned}

@@ -1,9 +1,9 @@
 -- Statements in order: what a block does from a place on.
-use Rattle.std.proofs.Common.{◌≡◌, ℕ, ◌+◌, ◌<◌, ◌≤◌, Bool, true, false, if◌then◌else◌, List, [], ◌∷◌, map, length, get_or, drop, refl, sym, ap, ◌∙◌}
+use Rattle.std.proofs.Common.{◌≡◌, ℕ, ◌+◌, ◌<◌, ◌≤◌, true, false, if◌then◌else◌, List, length, get_or, drop, refl, ap, ◌∙◌}
 use Rattle.source_trees.specs.declared.statement.Stmt.{Stmt}
 use Rattle.source_trees.specs.declared.statement.Arm.{Arm}
 use Rattle.meaning_rules.specs.State.{State, Stop, Flow, Next}
-use Rattle.meaning_rules.specs.Outcome.{Outcome, Gives, Stops, Run, and_then, bind, pure, is_next, ◌>>=◌}
+use Rattle.meaning_rules.specs.Outcome.{Outcome, Gives, Stops, Run, and_then, bind, pure, is_next}
 use Rattle.meaning_rules.specs.Program.{Scope}
 use Rattle.meaning_rules.specs.Task.{Consumer, Setting}
 use Rattle.meaning_rules.specs.Expressions.{condition}

@@ -1,5 +1,5 @@
 -- New instances whose fields their `__init__` sets.
-use Rattle.std.proofs.Common.{◌≡◌, ℕ, List, map, Some, refl, sym, ap, ◌∙◌}
+use Rattle.std.proofs.Common.{◌≡◌, ℕ, List, map, Some, sym, ap, ◌∙◌}
 use Rattle.codon_base.specs.declared.value.Value.{Value}
 use Rattle.codon_base.specs.declared.value.Value.TheVariants as value
 use Rattle.codon_base.specs.declared.object.Object.TheVariants.{Instance}

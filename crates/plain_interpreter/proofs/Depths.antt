@@ -1,7 +1,6 @@
 -- Runs that may enter only so many bodies. Where such a run does not stop for that, it is the run to any greater depth on the same fuel, and else it has printed the beginning of what that one prints. And where the fuel is no more than the depth, no run stops for its depth, since each body that is entered takes a tick.
-use Rattle.std.proofs.Common.{◌≡◌, ℕ, zero, suc, ◌+◌, ◌-◌, ◌≤◌, ◌<◌, Bool, true, false, if◌then◌else◌, nat_lt, ◌&&◌, List, [], ◌∷◌, ◌++◌, length, take, refl, sym, ap, subst, ◌∙◌, arith}
+use Rattle.std.proofs.Common.{◌≡◌, ℕ, zero, suc, ◌+◌, ◌-◌, ◌≤◌, ◌<◌, Bool, true, false, if◌then◌else◌, nat_lt, ◌&&◌, List, [], ◌∷◌, ◌++◌, length, refl, sym, ap, subst, ◌∙◌, arith}
 use Rattle.std.proofs.lemmas.Bool.Decides.{nat_tests}
-use Rattle.codon_base.specs.declared.fault.Ending.TheVariants as ending
 use Rattle.codon_base.specs.declared.object.Object.{Object}
 use Rattle.codon_base.specs.declared.value.Value.{Value}
 use Rattle.source_trees.specs.declared.item.Module.{Module}
@@ -13,11 +12,10 @@ use Rattle.meaning_rules.specs.Iterations.{in_place}
 use Rattle.meaning_rules.specs.Meaning.{run, outcome, meaning, meaning_of, start}
 use Rattle.plain_interpreter.specs.Plain.{IsRun, IsMeant}
 use Rattle.plain_interpreter.specs.declared.plain.PlainEnd.{PlainEnd}
-use Rattle.plain_interpreter.specs.declared.plain.PlainEnd.TheVariants as «end»
 use Rattle.meaning_rules.proofs.Closed.{Relation, Closed}
 use Rattle.meaning_rules.proofs.ClosedRuns.{runs_closed}
 use Rattle.meaning_rules.proofs.ClosedStatements.{task_closed}
-use Rattle.meaning_rules.proofs.Longer.{Ends, out_of, begins_itself, Later, Longer, stops_later, cuts_later}
+use Rattle.meaning_rules.proofs.Longer.{out_of, begins_itself, Later, Longer, stops_later, cuts_later}
 use Rattle.meaning_rules.proofs.Fuel.{fuelled}
 use Rattle.meaning_rules.proofs.LawsHold.{bytes_are}
 

@@ -10,7 +10,6 @@ use Rattle.source_trees.specs.declared.statement.LoopNames.{LoopNames}
 use Rattle.meaning_rules.specs.State.{Spelling, Names, State, Stop, Flow, Next}
 use Rattle.meaning_rules.specs.Outcome.{Outcome, Gives, Stops, Run, and_then, bind, pure, look, framed, ◌>>=◌}
 use Rattle.source_trees.specs.Names.{loop_names}
-use Rattle.plain_interpreter.specs.Frames.{with_names}
 use Rattle.meaning_rules.specs.Objects.{allocate, truth}
 use Rattle.meaning_rules.specs.Program.{Scope, with_locals}
 use Rattle.meaning_rules.specs.Task.{Comprehension, Setting}

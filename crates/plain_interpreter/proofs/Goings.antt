@@ -1,12 +1,12 @@
 -- Calls by name that a loop goes over: a value's items, a range's numbers, a generator's items.
-use Rattle.std.proofs.Common.{◌≡◌, Bool, true, false, if◌then◌else◌, List, refl, sym, ap, ◌∙◌}
+use Rattle.std.proofs.Common.{◌≡◌, Bool, true, if◌then◌else◌, List, refl, sym, ap, ◌∙◌}
 use Rattle.codon_base.specs.declared.value.Value.{Value}
 use Rattle.source_trees.specs.declared.node.Node.{Node}
 use Rattle.source_trees.specs.declared.node.Name.{Name}
 use Rattle.source_trees.specs.declared.expression.Expr.{Expr}
 use Rattle.source_trees.specs.declared.expression.Expr.TheVariants as e
-use Rattle.meaning_rules.specs.State.{Spelling, State}
-use Rattle.meaning_rules.specs.Outcome.{Outcome, Run, Gives, and_then, ◌>>=◌, pure, bind}
+use Rattle.meaning_rules.specs.State.{State}
+use Rattle.meaning_rules.specs.Outcome.{Outcome, Gives, and_then, ◌>>=◌, pure, bind}
 use Rattle.meaning_rules.specs.Bodies.{yields}
 use Rattle.meaning_rules.specs.Calls.{call}
 use Rattle.meaning_rules.specs.Loops.{Iterable, Items, Generated}

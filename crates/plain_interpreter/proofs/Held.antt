@@ -1,7 +1,7 @@
 -- Names with values in a list, and lists of spellings.
-use Rattle.std.proofs.Common.{drop, get_or, ◌≡◌, ℕ, zero, suc, ◌+◌, ◌<◌, ◌≤◌, Bool, true, false, not, if◌then◌else◌, cond, List, [], ◌∷◌, ◌++◌, map, length, Option, Some, None, refl, sym, ap, ◌∙◌, subst, arith}
+use Rattle.std.proofs.Common.{drop, get_or, ◌≡◌, ℕ, suc, ◌+◌, ◌<◌, ◌≤◌, Bool, true, false, not, if◌then◌else◌, cond, List, [], ◌∷◌, ◌++◌, map, length, Some, None, refl, sym, ap, ◌∙◌, arith}
 use Rattle.std.specs.Prelude.{◌||◌, nat_lt}
-use Rattle.std.specs.List.{flat_map, list_any, prefix_len, position, position_or_len}
+use Rattle.std.specs.List.{flat_map, list_any, position, position_or_len}
 use Rattle.std.specs.Cmp.Lexicographic.{bytes_decides}
 use Rattle.std.proofs.Math.ListN.{set}
 use Rattle.std.proofs.lemmas.Bool.{ltb-true, ltb-false}
@@ -16,7 +16,6 @@ use Rattle.plain_interpreter.specs.Scopes.{sets, has_local, scope_of}
 use Rattle.plain_interpreter.specs.declared.scope.Scope.{Scope}
 use Rattle.plain_interpreter.specs.Seen.{held_in}
 use Rattle.plain_interpreter.specs.declared.state.Entry.{Entry}
-use Rattle.plain_interpreter.specs.declared.state.Names.{Names as Table}
 use Rattle.plain_interpreter.proofs.Rest.{drop_next, drop_end}
 
 -- ---- tests over lists

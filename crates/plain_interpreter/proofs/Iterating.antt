@@ -1,5 +1,5 @@
 -- A parallel iteration is its beginning, its body and its end, and a region likewise, since a body leaves the iterations round it as they were.
-use Rattle.std.proofs.Common.{◌≡◌, map, ℕ, ◌+◌, ◌-◌, Bool, true, false, if◌then◌else◌, ◌&&◌, List, [], ◌∷◌, ◌++◌, length, take, Option, Some, refl, sym, ap, subst, ◌∙◌, arith}
+use Rattle.std.proofs.Common.{◌≡◌, map, ℕ, ◌-◌, Bool, true, false, if◌then◌else◌, List, [], ◌∷◌, ◌++◌, length, take, Option, refl, sym, ap, subst, ◌∙◌, arith}
 use Rattle.std.proofs.Math.Seq.{take-append_seam}
 use Rattle.std.proofs.lemmas.List.{length-append}
 use Rattle.codon_base.specs.declared.object.Object.{Object}
@@ -8,7 +8,7 @@ use Rattle.codon_base.specs.declared.value.Value.TheVariants.{Unset}
 use Rattle.source_trees.specs.declared.statement.LoopNames.{LoopNames}
 use Rattle.source_trees.specs.declared.statement.Stmt.{Stmt}
 use Rattle.source_trees.specs.declared.pipeline.Stage.{Stage}
-use Rattle.meaning_rules.specs.State.{Spelling, is_among, Names, unset_names, with_names_of, Iteration, State, Stop, TooDeep, Flow}
+use Rattle.meaning_rules.specs.State.{Spelling, is_among, Names, unset_names, with_names_of, Iteration, State, Stop, Flow}
 use Rattle.meaning_rules.specs.Outcome.{Outcome, Gives, Stops, Run, and_then, ◌>>=◌, bind, pure, item_reached, in_iteration, is_outside, counting}
 use Rattle.meaning_rules.specs.Program.{Program, Scope}
 use Rattle.meaning_rules.specs.Task.{Region, Consumer, Body, Turn, Setting}
@@ -16,12 +16,12 @@ use Rattle.meaning_rules.specs.Iterations.{in_place}
 use Rattle.meaning_rules.specs.Statements.{statements, body_turn, parallel_turn}
 use Rattle.meaning_rules.specs.Pipelines.{parallel_part, ahead_of, perform, through}
 use Rattle.meaning_rules.specs.Meaning.{run}
-use Rattle.plain_interpreter.specs.Inside.{Saved, entering, leaving, from_zero, finishing}
+use Rattle.plain_interpreter.specs.Inside.{entering, leaving, from_zero, finishing}
 use Rattle.plain_interpreter.specs.Seen.{iteration_of}
 use Rattle.plain_interpreter.specs.declared.state.Iteration as code
 use Rattle.meaning_rules.proofs.ClosedPipelines.{ahead_of_closed, perform_closed, through_closed}
 use Rattle.meaning_rules.proofs.ClosedStatements.{task_closed}
-use Rattle.meaning_rules.proofs.Steady.{Kept, Steady, runs_steady}
+use Rattle.meaning_rules.proofs.Steady.{Kept, runs_steady}
 
 -- ---- what comes back
 

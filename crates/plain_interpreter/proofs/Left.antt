@@ -1,5 +1,5 @@
 -- Flows that leave bodies of generators.
-use Rattle.std.proofs.Common.{◌≡◌, ◌≢◌, ℕ, zero, suc, ◌+◌, ◌-◌, Bool, true, false, refl, sym, ap, ◌∙◌, arith}
+use Rattle.std.proofs.Common.{◌≡◌, ◌≢◌, ℕ, suc, ◌+◌, ◌-◌, true, false, refl, ap, arith}
 use Rattle.meaning_rules.specs.State.{Flow, Next, Break, Continue, Return, Left}
 use Rattle.meaning_rules.specs.Outcome.{Run, pure, is_next}
 use Rattle.meaning_rules.specs.Loops.{after_turn, yielded}

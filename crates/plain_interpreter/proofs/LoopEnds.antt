@@ -1,9 +1,6 @@
 -- How a loop goes on from where it has begun: its statement ends as its turns do, and a region ends after them.
-use Rattle.std.proofs.Common.{◌≡◌, ◌≢◌, ℕ, Bool, true, false, List, Option, Some, None, Result, Ok, Err, refl, sym, ap, ◌∙◌, subst}
-use Rattle.codon_base.specs.declared.value.Value.{Value}
+use Rattle.std.proofs.Common.{◌≡◌, ℕ, Bool, true, false, List, Option, Some, None, Result, Ok, Err, refl, sym, ap, ◌∙◌, subst}
 use Rattle.source_trees.specs.declared.statement.For.{For}
-use Rattle.source_trees.specs.declared.statement.LoopNames.{LoopNames}
-use Rattle.source_trees.specs.declared.statement.Stmt.{Stmt}
 use Rattle.meaning_rules.specs.State as meaning
 use Rattle.meaning_rules.specs.State.{Spelling}
 use Rattle.meaning_rules.specs.Outcome.{Outcome, Gives, Stops, Run, and_then, bind, pure, ◌>>=◌, is_outside}

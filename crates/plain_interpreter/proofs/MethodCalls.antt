@@ -1,5 +1,5 @@
 -- Calls of methods by what stands at the address of the object.
-use Rattle.std.proofs.Common.{◌≡◌, ℕ, false, if◌then◌else◌, List, [], ◌∷◌, length, Option, Some, None, refl, sym, ap, ◌∙◌}
+use Rattle.std.proofs.Common.{◌≡◌, ℕ, List, ◌∷◌, length, Option, Some, None, refl, sym, ap, ◌∙◌}
 use Rattle.std.specs.Prelude.{slice_get, option_map, codes}
 use Rattle.std.specs.Option.{option_copied}
 use Rattle.std.specs.Slice.{IsItemAt}
@@ -18,10 +18,9 @@ use Rattle.meaning_rules.specs.Outcome.{Outcome, Gives, Stops, Run, and_then, bi
 use Rattle.meaning_rules.specs.Objects.{one_of, ref_in, object, instance_in}
 use Rattle.meaning_rules.specs.Operations.{list_method}
 use Rattle.meaning_rules.specs.Program.{Known, function_named, methods_of}
-use Rattle.meaning_rules.specs.Bodies.{yields}
 use Rattle.meaning_rules.specs.Task.{Setting}
 use Rattle.meaning_rules.specs.Calls.{call, method_of}
-use Rattle.meaning_rules.specs.Loops.{Iterable, Items}
+use Rattle.meaning_rules.specs.Loops.{Items}
 use Rattle.meaning_rules.specs.Expressions.{method_on, call_method, iterable_on, iterable_method, generated_by, items_of}
 use Rattle.plain_interpreter.specs.Kinds.{kind_of, found_method, told, called_on, goes_over_on}
 use Rattle.plain_interpreter.specs.Tasks.{program_of}

@@ -1,11 +1,10 @@
 -- The run of a module is that of its statements.
-use Rattle.std.proofs.Common.{◌≡◌, ℕ, Bool, false, List, [], refl, ap, ◌∙◌}
+use Rattle.std.proofs.Common.{◌≡◌, ℕ, false, List, [], ap, ◌∙◌}
 use Rattle.std.specs.List.{flat_map}
 use Rattle.source_trees.specs.declared.item.Item.{Item}
 use Rattle.source_trees.specs.declared.item.Module.{Module}
-use Rattle.meaning_rules.specs.State.{Spelling, State, TooDeep, Flow}
-use Rattle.meaning_rules.specs.Outcome.{Outcome}
-use Rattle.meaning_rules.specs.Program.{Program, Scope, program_of, module_scope, statement_in, statements_of}
+use Rattle.meaning_rules.specs.State.{Spelling, State, TooDeep}
+use Rattle.meaning_rules.specs.Program.{Program, Scope, program_of, module_scope, statement_in}
 use Rattle.meaning_rules.specs.Task.{Setting}
 use Rattle.meaning_rules.specs.Iterations.{in_place}
 use Rattle.meaning_rules.specs.Statements.{statements}

@@ -10,7 +10,7 @@ use Rattle.source_trees.specs.declared.expression.Commas.{Commas}
 use Rattle.source_trees.specs.declared.expression.Expr.{Expr, Expr-F}
 use Rattle.source_trees.specs.declared.expression.Expr.TheFolds.{fold-Comparison, fold-roll-Expr, fold_out-Comparison}
 use Rattle.source_trees.specs.declared.expression.Expr.TheVariants as e
-use Rattle.source_trees.specs.declared.expression.Comparison.{Comparison, out-Comparison}
+use Rattle.source_trees.specs.declared.expression.Comparison.{Comparison}
 use Rattle.source_trees.specs.declared.item.Annotation.{Annotation}
 use Rattle.source_trees.specs.declared.pipeline.Printed.{Printed}
 use Rattle.source_trees.specs.declared.pipeline.Stage.{Stage}

@@ -1,8 +1,6 @@
 -- The equations of statements, one for each form.
-use Rattle.std.proofs.Common.{◌≡◌, ℕ, Bool, true, false, if◌then◌else◌, List, [], ◌∷◌, map, Option, Some, None, refl, sym, ap, ◌∙◌}
-use Rattle.codon_base.specs.declared.fault.FaultKind.{FaultKind}
+use Rattle.std.proofs.Common.{◌≡◌, if◌then◌else◌, List, [], ◌∷◌, map, Option, Some, refl, sym, ap, ◌∙◌}
 use Rattle.codon_base.specs.declared.fault.FaultKind.TheVariants as kind
-use Rattle.codon_base.specs.declared.value.Value.{Value}
 use Rattle.source_trees.specs.declared.node.Node.{Node}
 use Rattle.source_trees.specs.declared.node.Name.{Name}
 use Rattle.source_trees.specs.declared.item.Annotation.{Annotation}
@@ -19,7 +17,7 @@ use Rattle.source_trees.specs.declared.statement.Stmt.{Stmt, Stmt-F}
 use Rattle.source_trees.specs.declared.statement.Stmt.TheFolds.{para-Arm, para-For, para-roll-Stmt, para-roll-Arm, para-roll-For}
 use Rattle.source_trees.specs.declared.statement.Stmt.TheVariants as d
 use Rattle.meaning_rules.specs.State.{State, Flow, Next, Break, Continue}
-use Rattle.meaning_rules.specs.Outcome.{Run, ◌>>=◌, pure, bind}
+use Rattle.meaning_rules.specs.Outcome.{Run, ◌>>=◌, pure}
 use Rattle.meaning_rules.specs.Program.{Scope}
 use Rattle.meaning_rules.specs.Captures.{begin_loop, body_scope}
 use Rattle.meaning_rules.specs.Task.{Consumer, Body, Parallel, Setting}

@@ -1,5 +1,5 @@
 -- Loops turn by turn, where a turn is a step that gives the item to the loop's names, and a body.
-use Rattle.std.proofs.Common.{◌≡◌, ◌≢◌, ℕ, zero, suc, ◌-◌, Bool, true, false, Option, Some, None, refl, sym, ap, ◌∙◌, arith}
+use Rattle.std.proofs.Common.{◌≡◌, ◌≢◌, ℕ, suc, ◌-◌, true, false, Option, Some, None, refl, ap, ◌∙◌, arith}
 use Rattle.codon_base.specs.declared.value.Value.{Value}
 use Rattle.source_trees.specs.declared.statement.LoopNames.{LoopNames}
 use Rattle.meaning_rules.specs.State.{State, Stop, OutOfFuel, Flow, Next}

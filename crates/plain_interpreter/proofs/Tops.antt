@@ -1,15 +1,14 @@
 -- The statements of a module: what they do from an item on.
-use Rattle.std.proofs.Common.{◌≡◌, ℕ, ◌+◌, ◌<◌, ◌≤◌, Bool, true, false, List, [], ◌∷◌, ◌++◌, length, get_or, drop, refl, sym, ap, ◌∙◌}
+use Rattle.std.proofs.Common.{◌≡◌, ℕ, ◌+◌, ◌<◌, ◌≤◌, true, false, List, [], ◌++◌, length, get_or, drop, refl, ap, ◌∙◌}
 use Rattle.std.specs.List.{flat_map}
 use Rattle.source_trees.specs.declared.item.Item.{Item}
 use Rattle.source_trees.specs.declared.item.Item.TheVariants as item
-use Rattle.source_trees.specs.declared.statement.Stmt.{Stmt}
 use Rattle.meaning_rules.specs.State.{State, Stop, Flow, Next}
 use Rattle.meaning_rules.specs.Outcome.{Outcome, Gives, Stops, Run, and_then, bind, pure, is_next}
 use Rattle.plain_interpreter.specs.Plain.{item_of}
 use Rattle.meaning_rules.specs.Program.{Scope, statement_in}
 use Rattle.meaning_rules.specs.Task.{Setting}
-use Rattle.meaning_rules.specs.Statements.{stmt, statements, then_next}
+use Rattle.meaning_rules.specs.Statements.{statements, then_next}
 use Rattle.plain_interpreter.proofs.Left.{next_more, next_none}
 use Rattle.plain_interpreter.proofs.Rest.{drop_next, drop_end}
 

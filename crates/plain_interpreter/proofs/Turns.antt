@@ -1,5 +1,5 @@
 -- Loops turn by turn.
-use Rattle.std.proofs.Common.{◌≡◌, ◌≢◌, ℕ, zero, suc, ◌-◌, Bool, true, false, Option, Some, None, refl, sym, ap, ◌∙◌, arith}
+use Rattle.std.proofs.Common.{◌≡◌, ◌≢◌, ℕ, suc, ◌-◌, true, false, Option, Some, None, refl, sym, ap, ◌∙◌, arith}
 use Rattle.codon_base.specs.declared.value.Value.{Value}
 use Rattle.meaning_rules.specs.State.{State, Stop, OutOfFuel, Flow, Next}
 use Rattle.meaning_rules.specs.Outcome.{Outcome, Gives, Stops, Run, and_then, bind, pure, stop, by_fuel, ◌>>=◌}

@@ -1,7 +1,7 @@
 -- What a loop goes over that a call by name gives, by what the name means.
 use Rattle.std.specs.Prelude.{◌≡◌, ◌≢◌, true, false}
 use Rattle.meaning_rules.specs.Bodies.{yields}
-use Rattle.meaning_rules.specs.Program.{Callee, Defined, Constructor, Standard, Variable, Unknown, Range}
+use Rattle.meaning_rules.specs.Program.{Callee, Defined, Standard, Range}
 use Rattle.plain_interpreter.specs.Tasks.{known_of}
 use Rattle.plain_interpreter.specs.declared.goes.Going.{Going}
 use Rattle.plain_interpreter.specs.declared.goes.Going.TheVariants as going

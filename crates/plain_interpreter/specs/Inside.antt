@@ -1,7 +1,7 @@
 -- How a parallel iteration is entered and left, and how a region begins and ends, step by step.
-use Rattle.std.specs.Prelude.{ℕ, ◌+◌, ◌-◌, Bool, ◌&&◌, List, [], ◌∷◌, ◌++◌, length, take}
+use Rattle.std.specs.Prelude.{ℕ, ◌+◌, ◌-◌, Bool, ◌&&◌, [], ◌∷◌, ◌++◌, length, take}
 use Rattle.codon_base.specs.declared.value.Value.{Value}
-use Rattle.meaning_rules.specs.State.{Names, unset_names, with_names_of, Shared, State, Flow}
+use Rattle.meaning_rules.specs.State.{Names, unset_names, with_names_of, State, Flow}
 use Rattle.meaning_rules.specs.Outcome.{Run, Gives, is_next, counted}
 use Rattle.meaning_rules.specs.Task.{Region}
 use Rattle.plain_interpreter.specs.Seen.{names_of}

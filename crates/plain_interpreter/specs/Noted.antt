@@ -1,6 +1,5 @@
 -- The notes of the parts of expressions and statements, and what the interpreter's notes stand for.
 use Rattle.std.specs.Prelude.{List, ◌++◌, map}
-use Rattle.std.specs.List.{flat_map}
 use Rattle.source_trees.specs.declared.expression.Comparison.{Comparison, out-Comparison}
 use Rattle.source_trees.specs.declared.statement.Arm.{Arm, out-Arm}
 use Rattle.source_trees.specs.declared.statement.For.{For, out-For}

@@ -1,14 +1,13 @@
 -- Loops that run in turn or in parallel, and the stages of a region, as the interpreter computes them.
-use Rattle.std.specs.Prelude.{List, Option, Some, None}
+use Rattle.std.specs.Prelude.{List, Some}
 use Rattle.codon_base.specs.declared.value.Value.{Value}
 use Rattle.source_trees.specs.declared.expression.Expr.{Expr}
-use Rattle.source_trees.specs.declared.statement.For.{For}
 use Rattle.source_trees.specs.declared.pipeline.StageForm.{StageForm}
 use Rattle.source_trees.specs.declared.pipeline.Stage.{Stage}
 use Rattle.meaning_rules.specs.State.{Flow}
 use Rattle.meaning_rules.specs.Outcome.{Run}
 use Rattle.meaning_rules.specs.Program.{Scope}
-use Rattle.meaning_rules.specs.Task.{Region, Consumer, Body, Parallel, Setting}
+use Rattle.meaning_rules.specs.Task.{Region, Consumer, Setting}
 use Rattle.meaning_rules.specs.Pipelines.{from_head}
 use Rattle.plain_interpreter.specs.Stages.{staged, staged_ahead}
 

@@ -1,5 +1,5 @@
 -- The definitions as the interpreter computes them, part by part.
-use Rattle.std.specs.Prelude.{ℕ, if◌then◌else◌, List, [], ◌∷◌, ◌++◌}
+use Rattle.std.specs.Prelude.{if◌then◌else◌, List, [], ◌∷◌}
 use Rattle.codon_base.specs.declared.value.Value.{Value}
 use Rattle.source_trees.specs.declared.expression.Expr.{Expr, out-Expr}
 use Rattle.source_trees.specs.declared.statement.Stmt.{Stmt}
@@ -10,7 +10,7 @@ use Rattle.meaning_rules.specs.State.{Flow}
 use Rattle.meaning_rules.specs.Outcome.{Run, ◌>>=◌, pure}
 use Rattle.meaning_rules.specs.Objects.{one_of}
 use Rattle.meaning_rules.specs.Program.{Scope, Known}
-use Rattle.meaning_rules.specs.Task.{Region, Consumer, Body, Parallel, Rules, Setting}
+use Rattle.meaning_rules.specs.Task.{Region, Consumer, Body, Parallel, Setting}
 use Rattle.meaning_rules.specs.Captures.{begin_loop, body_scope}
 use Rattle.meaning_rules.specs.Calls.{arguments}
 use Rattle.meaning_rules.specs.Loops as loops

@@ -1,5 +1,5 @@
 -- What the interpreter's program, tasks and consumers stand for among the definitions.
-use Rattle.std.specs.Prelude.{◌≡◌, ℕ, Bool, List, [], ◌∷◌, map, drop, Option, Some, None, Result}
+use Rattle.std.specs.Prelude.{◌≡◌, ℕ, List, map, drop, Option, Some, None, Result}
 use Rattle.std.specs.Borrow.{Bor, MutBor}
 use Rattle.std.specs.declared.alloc.Global.{Global}
 use Rattle.meaning_rules.specs.State as meaning

@@ -1,7 +1,7 @@
 -- What the walks over bodies tell of arms and loops, by their statements.
-use Rattle.std.specs.Prelude.{Bool, true, false, List, [], ◌∷◌, ◌++◌}
+use Rattle.std.specs.Prelude.{Bool, true, false, List, [], ◌++◌}
 use Rattle.std.specs.List.{flat_map, list_any}
-use Rattle.source_trees.specs.declared.statement.Stmt.{Stmt, Stmt-F}
+use Rattle.source_trees.specs.declared.statement.Stmt.{Stmt-F}
 use Rattle.source_trees.specs.declared.statement.Arm.{Arm, out-Arm}
 use Rattle.source_trees.specs.declared.statement.For.{For, out-For}
 use Rattle.meaning_rules.specs.State.{Spelling}

@@ -275,9 +275,7 @@ impl<
         ensures { Tells (condition_of (here self.now.program.now self.now.limit self.now.depth) (scope_of scope.now) e.now (seen state.old)) result state.new }
     {
         match e {
-            Some(e) => {
-                holds(self.expr(state, scope, e.get()), self.alloc, state)
-            }
+            Some(e) => { holds(self.expr(state, scope, e.get()), self.alloc, state) }
             None => Ok(true),
         }
     }

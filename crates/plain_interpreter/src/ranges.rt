@@ -13,7 +13,12 @@ use codon_base::{Memory, Value, Values};
 use std::alloc::Global;
 
 /// The numbers of a range.
-fn numbers<'m>(alloc: Global, start: Value, stop: Value, step: Value) -> Result<Iterable<'m>, Memory>
+fn numbers<'m>(
+    alloc: Global,
+    start: Value,
+    stop: Value,
+    step: Value,
+) -> Result<Iterable<'m>, Memory>
     ensures { IfOk result (λ goes_over. iterable_of goes_over ≡ loops.Numbers start stop step) }
 {
     let numbers = Box::new(alloc, Numbers { start, stop, step })?;

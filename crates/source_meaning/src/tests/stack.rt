@@ -40,7 +40,12 @@ impl<'a, R: Abort> Trees<'a, R> {
             Nested::Argument => self.call("len", [e]),
             Nested::Item => self.each(e, self.one("x"), self.call("range", [self.int(1)])),
             Nested::Iterable => self.each(self.int(1), self.one("x"), e),
-            Nested::Condition => self.each_if(self.int(1), self.one("x"), self.call("range", [self.int(1)]), e),
+            Nested::Condition => self.each_if(
+                self.int(1),
+                self.one("x"),
+                self.call("range", [self.int(1)]),
+                e,
+            ),
             Nested::Gathered => self.call("list", [e]),
             Nested::Chain => {
                 let part = Expr::Bracketed(NODE, self.part(e));

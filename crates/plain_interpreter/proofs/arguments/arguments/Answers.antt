@@ -1,4 +1,4 @@
-use Rattle.std.proofs.Common.{◌≡◌, ◌≤◌, ◌∙◌, ap, sym, rules, arith, length}
+use Rattle.std.proofs.Common.{sym, arith}
 use Rattle.std.proofs.lemmas.Grind.{common_steps}
 use Rattle.plain_interpreter.proofs.GivenValues.{too_many, given_first}
 use Rattle.plain_interpreter.proofs.arguments.arguments.Goals as goal

@@ -1,4 +1,4 @@
-use Rattle.std.proofs.Common.{◌≡◌, ◌∙◌, ap, sym, rules, arith, drop}
+use Rattle.std.proofs.Common.{arith, drop}
 use Rattle.std.proofs.lemmas.Grind.{common_steps}
 use Rattle.plain_interpreter.specs.Seen.{names_of}
 use Rattle.plain_interpreter.proofs.GivenValues.{param_step, params_end, values_end}

@@ -1,4 +1,4 @@
-use Rattle.std.proofs.Common.{◌≡◌, ◌<◌, ◌^◌, drop, length}
+use Rattle.std.proofs.Common.{◌≡◌, drop}
 use Rattle.meaning_rules.specs.Program as spec
 use Rattle.plain_interpreter.specs.Callees.{classes_in}
 use Rattle.plain_interpreter.proofs.callee.class_named.Given as goal

@@ -1,4 +1,4 @@
-use Rattle.std.proofs.Common.{◌≡◌, map, refl, sym, ap, ◌∙◌}
+use Rattle.std.proofs.Common.{map, refl, sym, ap, ◌∙◌}
 use Rattle.std.specs.Prelude.{not, ◌&&◌}
 use Rattle.meaning_rules.specs.State.{is_among}
 use Rattle.meaning_rules.specs.Program.{is_variable}

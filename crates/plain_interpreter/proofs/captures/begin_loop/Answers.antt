@@ -1,4 +1,4 @@
-use Rattle.std.proofs.Common.{◌≡◌, ◌++◌, [], if◌then◌else◌, subst, ap, ◌∙◌}
+use Rattle.std.proofs.Common.{◌++◌, [], if◌then◌else◌, subst, ap, ◌∙◌}
 use Rattle.meaning_rules.specs.Captures as spec
 use Rattle.meaning_rules.specs.Mentions.{notes_of_body, written_places}
 use Rattle.plain_interpreter.specs.Noted.{noted}

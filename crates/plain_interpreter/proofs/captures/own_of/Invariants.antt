@@ -1,5 +1,4 @@
-use Rattle.std.proofs.Common.{◌≡◌, ◌++◌, drop, map}
-use Rattle.std.specs.List.{flat_map, filter}
+use Rattle.std.proofs.Common.{◌≡◌, ◌++◌, drop}
 use Rattle.meaning_rules.specs.Captures as spec
 use Rattle.plain_interpreter.specs.Scopes.{scope_of}
 use Rattle.plain_interpreter.proofs.captures.own_of.Given as goal

@@ -1,5 +1,4 @@
 use Rattle.std.proofs.Common.{◌≡◌, ◌++◌, drop, map}
-use Rattle.std.specs.List.{flat_map, filter}
 use Rattle.meaning_rules.specs.Captures as spec
 use Rattle.plain_interpreter.specs.Reaching.{captured_of}
 use Rattle.plain_interpreter.proofs.captures.push_instances.Given as goal

@@ -1,8 +1,6 @@
 use Rattle.std.proofs.Common.{◌≡◌, ◌++◌, drop, map}
-use Rattle.std.specs.List.{flat_map, filter}
-use Rattle.std.specs.Prelude.{not, ◌&&◌}
+use Rattle.std.specs.List.{filter}
 use Rattle.meaning_rules.specs.State.{is_among}
-use Rattle.plain_interpreter.specs.Scopes.{scope_of}
 use Rattle.meaning_rules.specs.Captures as spec
 use Rattle.plain_interpreter.specs.Reaching.{captured_of}
 use Rattle.plain_interpreter.proofs.captures.push_lists.Given as goal

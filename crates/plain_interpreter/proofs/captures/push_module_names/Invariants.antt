@@ -1,5 +1,5 @@
-use Rattle.std.proofs.Common.{◌≡◌, ◌++◌, drop, map}
-use Rattle.std.specs.List.{flat_map, filter}
+use Rattle.std.proofs.Common.{◌≡◌, ◌++◌, drop}
+use Rattle.std.specs.List.{filter}
 use Rattle.std.specs.Prelude.{not, ◌&&◌}
 use Rattle.meaning_rules.specs.State.{is_among}
 use Rattle.plain_interpreter.specs.Scopes.{scope_of}
@@ -7,7 +7,6 @@ use Rattle.meaning_rules.specs.Captures as spec
 use Rattle.meaning_rules.specs.Mentions as mentions
 use Rattle.plain_interpreter.specs.Noted.{noted}
 use Rattle.plain_interpreter.specs.Tasks.{program_of}
-use Rattle.meaning_rules.specs.Program.{is_variable}
 use Rattle.plain_interpreter.proofs.captures.push_module_names.Given as goal
 
 abbrev pub invariant-notes : goal.invariant-notes

@@ -1,5 +1,4 @@
-use Rattle.std.proofs.Common.{◌≡◌, ◌++◌, drop, map}
-use Rattle.std.specs.List.{flat_map, filter}
+use Rattle.std.proofs.Common.{◌≡◌, ◌++◌, drop}
 use Rattle.plain_interpreter.proofs.captures.push_names.Given as goal
 
 abbrev pub invariant-more : goal.invariant-more

@@ -1,5 +1,4 @@
-use Rattle.std.proofs.Common.{◌≡◌, ◌++◌, drop, map}
-use Rattle.std.specs.List.{flat_map, filter}
+use Rattle.std.proofs.Common.{◌≡◌, ◌++◌, drop}
 use Rattle.meaning_rules.specs.Mentions as mentions
 use Rattle.plain_interpreter.specs.Noted.{noted}
 use Rattle.plain_interpreter.proofs.captures.written_places.Given as goal

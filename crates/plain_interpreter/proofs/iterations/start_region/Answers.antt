@@ -1,4 +1,3 @@
-use Rattle.std.proofs.Common.{◌≡◌}
 use Rattle.plain_interpreter.specs.Seen.{seen}
 use Rattle.plain_interpreter.proofs.Iterating.{outside_seen}
 use Rattle.plain_interpreter.proofs.iterations.start_region.Goals as goal

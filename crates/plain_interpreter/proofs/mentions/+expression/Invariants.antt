@@ -1,7 +1,7 @@
 use Rattle.std.proofs.Common.{◌≡◌, ◌++◌, drop}
 use Rattle.std.specs.List.{flat_map}
 use Rattle.meaning_rules.specs.Mentions as spec
-use Rattle.plain_interpreter.specs.Noted.{noted, notes_of_comparison, notes_of_arm}
+use Rattle.plain_interpreter.specs.Noted.{noted, notes_of_comparison}
 use Rattle.plain_interpreter.proofs.mentions.+expression.Given as goal
 
 abbrev pub invariant-note_exprs-items : goal.invariant-note_exprs-items

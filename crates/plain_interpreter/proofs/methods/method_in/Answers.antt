@@ -1,4 +1,4 @@
-use Rattle.std.proofs.Common.{◌≡◌, sym, ap, ◌∙◌, subst}
+use Rattle.std.proofs.Common.{sym, ap, ◌∙◌, subst}
 use Rattle.meaning_rules.specs.Outcome.{Outcome, Stops}
 use Rattle.meaning_rules.specs.Program.{Known}
 use Rattle.plain_interpreter.specs.Seen.{TellsAtBy}

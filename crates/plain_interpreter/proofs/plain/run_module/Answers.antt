@@ -1,4 +1,4 @@
-use Rattle.std.proofs.Common.{◌≡◌, subst}
+use Rattle.std.proofs.Common.{subst}
 use Rattle.plain_interpreter.specs.Seen.{seen, TellsFlow}
 use Rattle.plain_interpreter.specs.Tasks.{program_of, lower}
 use Rattle.plain_interpreter.proofs.Modules.{run_is}

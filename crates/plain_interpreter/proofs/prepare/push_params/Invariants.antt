@@ -1,5 +1,4 @@
-use Rattle.std.proofs.Common.{◌≡◌, ◌++◌, drop, map}
-use Rattle.std.specs.List.{flat_map}
+use Rattle.std.proofs.Common.{◌≡◌, ◌++◌, drop}
 use Rattle.meaning_rules.specs.Program as spec
 use Rattle.plain_interpreter.proofs.prepare.push_params.Given as goal
 

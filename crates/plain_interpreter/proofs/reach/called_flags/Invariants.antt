@@ -1,9 +1,7 @@
 use Rattle.std.proofs.Common.{◌≡◌, ◌++◌, drop, map}
-use Rattle.std.specs.List.{flat_map, filter}
-use Rattle.meaning_rules.specs.Mentions as mentions
 use Rattle.plain_interpreter.specs.Noted.{noted}
 use Rattle.plain_interpreter.specs.Tasks.{callable_of}
-use Rattle.plain_interpreter.specs.Reaching.{picked, flags_of, flags_within}
+use Rattle.plain_interpreter.specs.Reaching.{flags_of}
 use Rattle.plain_interpreter.proofs.reach.called_flags.Given as goal
 
 abbrev pub invariant-callables : goal.invariant-callables

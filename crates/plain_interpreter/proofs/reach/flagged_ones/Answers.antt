@@ -1,4 +1,4 @@
-use Rattle.std.proofs.Common.{◌≡◌, ◌+◌, ◌++◌, ◌∙◌, ap, map}
+use Rattle.std.proofs.Common.{◌+◌, ◌++◌, ◌∙◌, ap, map}
 use Rattle.plain_interpreter.specs.Tasks.{callable_of}
 use Rattle.plain_interpreter.proofs.Rounds.{picked_more, joined}
 use Rattle.plain_interpreter.proofs.reach.flagged_ones.Goals as goal

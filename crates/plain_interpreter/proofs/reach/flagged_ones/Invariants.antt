@@ -1,5 +1,4 @@
 use Rattle.std.proofs.Common.{◌≡◌, ◌++◌, drop, map}
-use Rattle.std.specs.List.{flat_map, filter}
 use Rattle.plain_interpreter.specs.Tasks.{callable_of}
 use Rattle.plain_interpreter.specs.Reaching.{picked}
 use Rattle.plain_interpreter.proofs.reach.flagged_ones.Given as goal

@@ -1,5 +1,5 @@
 use Rattle.std.proofs.Common.{◌≡◌, ◌++◌, drop, map}
-use Rattle.std.specs.List.{flat_map, filter}
+use Rattle.std.specs.List.{flat_map}
 use Rattle.plain_interpreter.specs.Noted.{noted}
 use Rattle.meaning_rules.specs.Captures as spec
 use Rattle.plain_interpreter.specs.Tasks.{callable_of}

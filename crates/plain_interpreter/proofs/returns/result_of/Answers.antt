@@ -1,5 +1,5 @@
-use Rattle.std.proofs.Common.{◌≡◌, ap, subst, sym}
-use Rattle.meaning_rules.specs.Outcome.{Outcome, Run}
+use Rattle.std.proofs.Common.{subst, sym}
+use Rattle.meaning_rules.specs.Outcome.{Run}
 use Rattle.codon_base.specs.declared.value.Value.{Value}
 use Rattle.plain_interpreter.specs.Seen.{flow_of, ended_by, TellsAt}
 use Rattle.plain_interpreter.proofs.Results.{result_left}

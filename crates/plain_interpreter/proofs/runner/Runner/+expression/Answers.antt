@@ -1,38 +1,29 @@
-use Rattle.std.proofs.Common.{◌≡◌, ◌+◌, ◌++◌, ◌∷◌, [], List, drop, rules, arith, ap, sym, ◌∙◌, subst, ◌≢◌, ℕ, suc, ◌-◌, Bool, true, false, Option, Some, None, refl}
+use Rattle.std.proofs.Common.{◌≡◌, List, arith, ap, sym, ◌∙◌, subst, Bool, refl}
 use Rattle.std.proofs.lemmas.Grind.{common_steps}
 use Rattle.meaning_rules.specs.Expressions as spec
-use Rattle.std.specs.Borrow.{Bor}
-use Rattle.meaning_rules.specs.State.{Spelling, Names, State, Flow, Next}
+use Rattle.meaning_rules.specs.State.{Next}
 use Rattle.plain_interpreter.specs.Lists as lists
 use Rattle.meaning_rules.specs.Loops as loops
-use Rattle.meaning_rules.specs.Outcome.{Outcome, Gives, and_then, bind, pure, Stops, Run}
-use Rattle.codon_base.specs.declared.object.Object.TheVariants.{List as Listed}
-use Rattle.meaning_rules.specs.Objects.{allocate}
-use Rattle.plain_interpreter.specs.Frames.{with_names}
+use Rattle.meaning_rules.specs.Outcome.{Outcome, Gives, bind, pure}
 use Rattle.meaning_rules.specs.Iterations.{in_place}
-use Rattle.plain_interpreter.specs.Cursors.{next_by}
-use Rattle.meaning_rules.specs.Meaning.{turn_of, condition_of}
-use Rattle.plain_interpreter.specs.Steps.{iterable_of, looped}
-use Rattle.meaning_rules.specs.Task.{Comprehension}
-use Rattle.plain_interpreter.specs.declared.iterable.Iterable.{Iterable}
-use Rattle.plain_interpreter.specs.Seen.{seen, flow_of, why_of, Tells, TellsBy, TellsFlow}
+use Rattle.meaning_rules.specs.Meaning.{condition_of}
+use Rattle.plain_interpreter.specs.Steps.{iterable_of}
+use Rattle.plain_interpreter.specs.Seen.{seen, Tells, TellsBy}
 use Rattle.plain_interpreter.specs.Scopes.{scope_of}
 use Rattle.plain_interpreter.specs.Tasks.{here, known_of}
 use Rattle.plain_interpreter.proofs.Parts.{exprs_begin, some_next, some_end, all_next, all_end, chain_more}
 use Rattle.plain_interpreter.proofs.Equations.{expr_Name, expr_Number, expr_Text, expr_True, expr_False, expr_None, expr_Bracketed, expr_Tuple, expr_List, expr_Conditional, expr_Or, expr_And, expr_Not, expr_Unary, expr_Binary, expr_MethodCall, expr_Index, expr_Comprehension, expr_Compare, expr_Call, expr_Slice, expr_Field, iterable_MethodCall, iterable_other}
-use Rattle.plain_interpreter.proofs.Turns.{loop_begins, turn_next}
 use Rattle.plain_interpreter.proofs.Goings.{range_is, generator_is, value_is}
 use Rattle.plain_interpreter.proofs.Gathering.{inner_scope, filling_begins, body, is_passed, stepped_on, ended_same, item_found, condition_found, condition_none, comprehension_found}
 use Rattle.codon_base.specs.declared.value.Value.{Value}
 use Rattle.plain_interpreter.specs.Collected.{collect}
 use Rattle.plain_interpreter.proofs.Rest.{after, collect_next, collect_end}
-use Rattle.source_trees.specs.Names.{loop_names}
 use Rattle.source_trees.specs.declared.expression.Expr.{Expr}
 use Rattle.plain_interpreter.specs.declared.state.State as code
 use Rattle.plain_interpreter.specs.declared.scope.Inner.{Inner}
 use Rattle.plain_interpreter.specs.declared.comprehensions.Gathering.{Gathering}
 use Rattle.plain_interpreter.specs.Entered.{stepped}
-use Rattle.plain_interpreter.specs.Gathered.{HasNames, filling, turns_of, ended, TellsGathering}
+use Rattle.plain_interpreter.specs.Gathered.{HasNames, filling, turns_of, ended}
 use Rattle.plain_interpreter.proofs.Stepped.{body_next}
 use Rattle.plain_interpreter.proofs.runner.Runner.+expression.Goals as goal
 use Rattle.plain_interpreter.proofs.runner.Runner.+expression.Goals.{fill-then-is_kept+in_ok-append_found, fill-else-is_kept, fill-in-Some+in_ok-is_kept-in-Some, fill-in-None}

@@ -6,7 +6,7 @@ use Rattle.meaning_rules.specs.Outcome.{Outcome, Gives, Run, and_then, bind, pur
 use Rattle.meaning_rules.specs.Iterations.{in_place}
 use Rattle.plain_interpreter.specs.Cursors.{next_by}
 use Rattle.meaning_rules.specs.Meaning.{turn_of}
-use Rattle.plain_interpreter.specs.Inside.{saved_of, entering}
+use Rattle.plain_interpreter.specs.Inside.{saved_of}
 use Rattle.meaning_rules.specs.Pipelines.{parallel_part}
 use Rattle.plain_interpreter.specs.Stages.{Ended, staged, staged_ahead}
 use Rattle.meaning_rules.specs.Loops.{after_loop}

@@ -1,4 +1,4 @@
-use Rattle.std.proofs.Common.{◌≡◌, ◌∙◌, ap, sym, subst, arith, rules, List, Some}
+use Rattle.std.proofs.Common.{◌∙◌, ap, sym, subst, arith, List}
 use Rattle.std.proofs.lemmas.Grind.{common_steps}
 use Rattle.meaning_rules.specs.State.{Flow, Spelling}
 use Rattle.meaning_rules.specs.Outcome.{Outcome, Gives, and_then, bind, pure}
@@ -11,14 +11,14 @@ use Rattle.meaning_rules.specs.Loops.{while_next}
 use Rattle.plain_interpreter.specs.Steps.{chosen, parallel_of, turns_from}
 use Rattle.meaning_rules.specs.Task.{Body, Parallel}
 use Rattle.plain_interpreter.specs.Inside.{saved_of}
-use Rattle.plain_interpreter.specs.Seen.{seen, flow_of, why_of, TellsFlow}
+use Rattle.plain_interpreter.specs.Seen.{seen, flow_of, TellsFlow}
 use Rattle.plain_interpreter.specs.Entered.{stepped, region_ends}
 use Rattle.plain_interpreter.specs.Scopes.{scope_of}
 use Rattle.plain_interpreter.specs.Tasks.{here, consumers_of, region_of}
 use Rattle.plain_interpreter.proofs.StatementEquations.{stmt_Pass, stmt_Break, stmt_Continue, stmt_Return, stmt_Yield, stmt_Raise, stmt_Assert, stmt_Annotated, stmt_Assign, stmt_Update, stmt_Evaluate, stmt_Print, stmt_Pipeline, stmt_If, stmt_While, stmt_For, stmt_Par}
-use Rattle.plain_interpreter.proofs.Blocks.{block_more, block_next, block_leaves, block_stops, block_end, chosen_next, chosen_end}
-use Rattle.plain_interpreter.proofs.Turns.{loop_begins, turn_next, turn_end, turn_stops_before, turn_stops, turn_leaves, turn_out, by_next, by_turn}
-use Rattle.plain_interpreter.proofs.Stepped.{step_end, step_stops, body_stops, body_leaves, body_out, body_next, by_step, by_body}
+use Rattle.plain_interpreter.proofs.Blocks.{block_more, block_next, block_leaves, block_end, chosen_next, chosen_end}
+use Rattle.plain_interpreter.proofs.Turns.{loop_begins, turn_next, turn_end, turn_leaves, turn_out, by_next, by_turn}
+use Rattle.plain_interpreter.proofs.Stepped.{step_end, body_leaves, body_out, body_next, by_step, by_body}
 use Rattle.plain_interpreter.proofs.LoopEnds.{loop_ends, for_is, closed_by, stepped_on, stepped_off}
 use Rattle.plain_interpreter.proofs.Apart.{turned_by, turned_above, turn_is}
 use Rattle.plain_interpreter.proofs.runner.Runner.+statement.Goals as goal

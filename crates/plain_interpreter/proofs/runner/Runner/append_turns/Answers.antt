@@ -1,4 +1,4 @@
-use Rattle.std.proofs.Common.{◌≡◌, [], sym, ◌∙◌, arith}
+use Rattle.std.proofs.Common.{[], sym, ◌∙◌, arith}
 use Rattle.meaning_rules.specs.Iterations.{in_place}
 use Rattle.plain_interpreter.specs.Cursors.{next_by}
 use Rattle.meaning_rules.specs.Meaning.{turn_of}

@@ -1,7 +1,7 @@
-use Rattle.std.proofs.Common.{◌≡◌, sym, ap, ◌∙◌, subst}
+use Rattle.std.proofs.Common.{sym, ap, ◌∙◌, subst}
 use Rattle.meaning_rules.specs.Outcome.{Outcome, Stops}
 use Rattle.meaning_rules.specs.State.{Stop}
-use Rattle.plain_interpreter.specs.Seen.{seen, Tells, TellsBy}
+use Rattle.plain_interpreter.specs.Seen.{seen, Tells}
 use Rattle.plain_interpreter.specs.Tasks.{here}
 use Rattle.codon_base.specs.declared.value.Value.{Value}
 use Rattle.plain_interpreter.proofs.MethodCalls.{on_list, on_instance, on_nothing}

@@ -1,4 +1,3 @@
-use Rattle.std.proofs.Common.{◌≡◌}
 use Rattle.plain_interpreter.proofs.runner.Runner.consume.Goals as goal
 
 pub returns-in-Parallel : goal.returns-in-Parallel

@@ -1,4 +1,4 @@
-use Rattle.std.proofs.Common.{rules, ◌≡◌, ◌≢◌, [], List, ◌∷◌, ◌++◌, IfOk, arith, sym, ap, ◌∙◌, subst, Result}
+use Rattle.std.proofs.Common.{◌≡◌, ◌≢◌, [], List, ◌∷◌, arith, sym, subst, Result}
 use Rattle.std.proofs.lemmas.Grind.{common_steps}
 use Rattle.codon_base.specs.declared.value.Value.{Value}
 use Rattle.codon_base.specs.declared.object.Object.TheVariants.{List as Listed}
@@ -6,19 +6,17 @@ use Rattle.source_trees.specs.Names.{loop_names}
 use Rattle.plain_interpreter.specs.declared.comprehensions.Gathering.{Gathering}
 use Rattle.plain_interpreter.specs.declared.state.Stop.TheVariants as stop
 use Rattle.plain_interpreter.specs.Entered.{TellsEntered}
-use Rattle.plain_interpreter.specs.Forms.{Comprehends, Gathers}
-use Rattle.plain_interpreter.specs.Gathered.{HasNames, IsSame, TellsGathering, ended, filling, turns_of}
+use Rattle.plain_interpreter.specs.Gathered.{HasNames, ended, filling, turns_of}
 use Rattle.plain_interpreter.specs.Lists as lists
-use Rattle.meaning_rules.specs.Meaning.{condition_of, turn_of}
+use Rattle.meaning_rules.specs.Meaning.{turn_of}
 use Rattle.meaning_rules.specs.Objects.{allocate}
-use Rattle.meaning_rules.specs.Outcome.{Outcome, Gives, Stops, Run}
+use Rattle.meaning_rules.specs.Outcome.{Gives, Stops}
 use Rattle.meaning_rules.specs.Program.{Scope, with_locals}
 use Rattle.plain_interpreter.specs.Scopes.{scope_of}
-use Rattle.plain_interpreter.specs.Seen.{seen, names_of, why_of, Tells, TellsBy, TellsFlow}
-use Rattle.meaning_rules.specs.State.{Next}
+use Rattle.plain_interpreter.specs.Seen.{seen, names_of, why_of}
 use Rattle.plain_interpreter.specs.Steps.{iterable_of, looped, turns_from}
 use Rattle.meaning_rules.specs.Task.{Comprehension}
-use Rattle.plain_interpreter.specs.Tasks.{Nests, here}
+use Rattle.plain_interpreter.specs.Tasks.{here}
 use Rattle.plain_interpreter.proofs.Gathering.{inner_locals, inner_scope, gathering_is, gathering_made}
 use Rattle.plain_interpreter.proofs.runner.Runner.gathering.Goals as goal
 

@@ -1,7 +1,7 @@
-use Rattle.std.proofs.Common.{◌≡◌, sym, ap, ◌∙◌, subst}
+use Rattle.std.proofs.Common.{sym, ap, ◌∙◌, subst}
 use Rattle.meaning_rules.specs.Outcome.{Outcome, Stops}
 use Rattle.meaning_rules.specs.State.{Stop}
-use Rattle.plain_interpreter.specs.Seen.{seen, Tells, TellsBy}
+use Rattle.plain_interpreter.specs.Seen.{seen, TellsBy}
 use Rattle.plain_interpreter.specs.Tasks.{here}
 use Rattle.meaning_rules.specs.Loops.{Iterable}
 use Rattle.plain_interpreter.specs.Steps.{iterable_of}

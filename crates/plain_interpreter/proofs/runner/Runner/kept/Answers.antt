@@ -13,4 +13,3 @@ returns-in-Some g c =
     subst (λ (o : Outcome Bool). Tells o c.holds.result c.expr.new.state)
     (sym (condition_found at (scope_of c.args.scope.now) c.args.e.now c.in-Some.e c.get.result.now (seen c.args.state.now) c.in-Some.is c.get.ensures))
     (c.holds.ensures (spec.expr at (scope_of c.args.scope.now) c.get.result.now (seen c.args.state.now)) c.expr.ensures)
-

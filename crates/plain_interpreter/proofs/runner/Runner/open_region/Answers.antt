@@ -1,4 +1,4 @@
-use Rattle.std.proofs.Common.{◌≡◌, ◌∙◌, ap, sym, subst, Bool}
+use Rattle.std.proofs.Common.{◌∙◌, ap, sym, subst, Bool}
 use Rattle.source_trees.specs.declared.expression.Expr.{out-Expr}
 use Rattle.meaning_rules.specs.State.{Flow}
 use Rattle.meaning_rules.specs.Outcome.{Outcome, and_then, bind, ◌>>=◌}

@@ -1,8 +1,8 @@
-use Rattle.std.proofs.Common.{◌≡◌, ◌<◌, ◌≤◌, ◌∙◌, sym, ap, refl, subst, rules, arith, List, length, Some, None, get_or}
+use Rattle.std.proofs.Common.{◌≡◌, ◌∙◌, sym, ap, Some, None, get_or}
 use Rattle.std.specs.List.{position, position_or_len}
 use Rattle.std.specs.Cmp.Lexicographic.{bytes_decides}
 use Rattle.std.proofs.Math.ListN.{set}
-use Rattle.meaning_rules.specs.State.{Spelling, same, assigned_to}
+use Rattle.meaning_rules.specs.State.{same}
 use Rattle.plain_interpreter.specs.Seen.{names_of, held_in}
 use Rattle.plain_interpreter.specs.declared.state.Entry.{Entry}
 use Rattle.plain_interpreter.proofs.Held.{held_set, held_push, position_some, position_none, position_passes}

@@ -1,5 +1,4 @@
-use Rattle.std.proofs.Common.{◌≡◌, ◌∙◌, sym, rules, arith}
-use Rattle.std.proofs.lemmas.Grind.{common_steps}
+use Rattle.std.proofs.Common.{◌∙◌, sym}
 use Rattle.plain_interpreter.specs.Seen.{names_of}
 use Rattle.plain_interpreter.proofs.Held.{held_found, held_not, held_none}
 use Rattle.plain_interpreter.proofs.state.Names.get.Goals as goal

@@ -1,4 +1,4 @@
-use Rattle.std.proofs.Common.{◌≡◌, ◌∙◌, ap, not}
+use Rattle.std.proofs.Common.{◌∙◌, ap, not}
 use Rattle.std.specs.List.{filter}
 use Rattle.meaning_rules.specs.State.{is_among}
 use Rattle.plain_interpreter.specs.Seen.{names_of, held_in}
