@@ -17,3 +17,8 @@ pub mod Leads
 pub mod Simples
 pub mod Lines
 pub mod Options
+pub mod Turned
+pub mod Goes
+pub mod Placed
+pub mod Piped
+pub mod Pushed
