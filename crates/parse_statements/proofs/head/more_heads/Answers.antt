@@ -10,24 +10,24 @@ use Rattle.parse_statements.proofs.head.more_heads.Goals as goal
 
 pub returns-then-not-goes_on : goal.returns-then-not-goes_on
 unfolding repeat
-returns-then-not-goes_on g c =
+returns-then-not-goes_on c =
     let e = one_more (λ n. repeat (row_test is_comma starts_head) (row_turn is_comma (head_item readers c.args.room) (λ v y. v ++ y ∷ [])) n c.turn.row c.turn.cursor) _ c.turn._turn c.turn-test.true c.turn.invariant in
     first_of (search rules, grind (arith, common_steps))
 
 pub returns-in_err-row : goal.returns-in_err-row
 unfolding repeat
-returns-in_err-row g c =
+returns-in_err-row c =
     let e = one_more (λ n. repeat (row_test is_comma starts_head) (row_turn is_comma (head_item readers c.args.room) (λ v y. v ++ y ∷ [])) n c.turn.row c.turn.cursor) _ c.turn._turn c.turn-test.true c.turn.invariant in
     first_of (search rules, grind (arith, common_steps))
 
 pub turn-preserved : goal.turn-preserved
 unfolding repeat
-turn-preserved g c =
+turn-preserved c =
     let e = one_more (λ n. repeat (row_test is_comma starts_head) (row_turn is_comma (head_item readers c.args.room) (λ v y. v ++ y ∷ [])) n c.turn.row c.turn.cursor) _ c.turn._turn c.turn-test.true c.turn.invariant in
     first_of (search rules, grind (arith, common_steps))
 
 pub returns : goal.returns
 unfolding repeat
-returns g c =
+returns c =
     let e = no_more (λ n. repeat (row_test is_comma starts_head) (row_turn is_comma (head_item readers c.args.room) (λ v y. v ++ y ∷ [])) n c.turn.row c.turn.cursor) _ c.turn._turn c.turn-test.false c.turn.invariant in
     first_of (search rules, grind (arith, common_steps))

@@ -11,28 +11,28 @@ use Rattle.parse_statements.proofs.line.line_rest.Goals as goal
 
 pub turn-init : goal.turn-init
 unfolding rest_of
-turn-init g c = first_of (search rules, grind (arith, common_steps))
+turn-init c = first_of (search rules, grind (arith, common_steps))
 
 pub returns-then-not-goes_on : goal.returns-then-not-goes_on
 unfolding repeat
-returns-then-not-goes_on g c =
+returns-then-not-goes_on c =
     let e = one_more (λ n. repeat (row_test is_semicolon (starts_in any_number starts_simple)) (row_turn is_semicolon (λ _. simple readers c.args.room) (λ v y. v ++ y ∷ [])) n c.turn.row c.turn.cursor) _ c.turn._turn c.turn-test.true c.turn.invariant in
     first_of (search rules, grind (arith, common_steps))
 
 pub returns-in_err-row : goal.returns-in_err-row
 unfolding repeat
-returns-in_err-row g c =
+returns-in_err-row c =
     let e = one_more (λ n. repeat (row_test is_semicolon (starts_in any_number starts_simple)) (row_turn is_semicolon (λ _. simple readers c.args.room) (λ v y. v ++ y ∷ [])) n c.turn.row c.turn.cursor) _ c.turn._turn c.turn-test.true c.turn.invariant in
     first_of (search rules, grind (arith, common_steps))
 
 pub turn-preserved : goal.turn-preserved
 unfolding repeat
-turn-preserved g c =
+turn-preserved c =
     let e = one_more (λ n. repeat (row_test is_semicolon (starts_in any_number starts_simple)) (row_turn is_semicolon (λ _. simple readers c.args.room) (λ v y. v ++ y ∷ [])) n c.turn.row c.turn.cursor) _ c.turn._turn c.turn-test.true c.turn.invariant in
     first_of (search rules, grind (arith, common_steps))
 
 pub returns : goal.returns
 unfolding repeat
-returns g c =
+returns c =
     let e = no_more (λ n. repeat (row_test is_semicolon (starts_in any_number starts_simple)) (row_turn is_semicolon (λ _. simple readers c.args.room) (λ v y. v ++ y ∷ [])) n c.turn.row c.turn.cursor) _ c.turn._turn c.turn-test.false c.turn.invariant in
     first_of (search rules, grind (arith, common_steps))

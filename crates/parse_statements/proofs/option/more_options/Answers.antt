@@ -8,28 +8,28 @@ use Rattle.parse_statements.proofs.option.more_options.Goals as goal
 
 pub turn-init : goal.turn-init
 unfolding more_options
-turn-init g c = first_of (search rules, grind (arith, common_steps))
+turn-init c = first_of (search rules, grind (arith, common_steps))
 
 pub returns-then-not-goes_on : goal.returns-then-not-goes_on
 unfolding repeat
-returns-then-not-goes_on g c =
+returns-then-not-goes_on c =
     let e = one_more (λ n. repeat (λ p t. takes_option p && is_comma t) (λ p ts. and_then (expect is_comma ts) (λ _. par_item p)) n c.turn.options c.turn.cursor) _ c.turn._turn c.turn-test.true c.turn.invariant in
     first_of (search rules, grind (arith, common_steps))
 
 pub returns-in_err-options : goal.returns-in_err-options
 unfolding repeat
-returns-in_err-options g c =
+returns-in_err-options c =
     let e = one_more (λ n. repeat (λ p t. takes_option p && is_comma t) (λ p ts. and_then (expect is_comma ts) (λ _. par_item p)) n c.turn.options c.turn.cursor) _ c.turn._turn c.turn-test.true c.turn.invariant in
     first_of (search rules, grind (arith, common_steps))
 
 pub turn-preserved : goal.turn-preserved
 unfolding repeat
-turn-preserved g c =
+turn-preserved c =
     let e = one_more (λ n. repeat (λ p t. takes_option p && is_comma t) (λ p ts. and_then (expect is_comma ts) (λ _. par_item p)) n c.turn.options c.turn.cursor) _ c.turn._turn c.turn-test.true c.turn.invariant in
     first_of (search rules, grind (arith, common_steps))
 
 pub returns : goal.returns
 unfolding repeat
-returns g c =
+returns c =
     let e = no_more (λ n. repeat (λ p t. takes_option p && is_comma t) (λ p ts. and_then (expect is_comma ts) (λ _. par_item p)) n c.turn.options c.turn.cursor) _ c.turn._turn c.turn-test.false c.turn.invariant in
     first_of (search rules, grind (arith, common_steps))

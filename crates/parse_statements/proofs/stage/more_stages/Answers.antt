@@ -11,28 +11,28 @@ use Rattle.parse_statements.proofs.stage.more_stages.Goals as goal
 
 pub turn-init : goal.turn-init
 unfolding many
-turn-init g c = first_of (search rules, grind (arith, common_steps))
+turn-init c = first_of (search rules, grind (arith, common_steps))
 
 pub returns-then-not-sees_joint : goal.returns-then-not-sees_joint
 unfolding repeat
-returns-then-not-sees_joint g c =
+returns-then-not-sees_joint c =
     let e = one_more (λ n. repeat (λ _. has (look_up joints)) (λ ys ts. and_then (stage readers c.args.room ts) (λ y. pure (ys ++ y ∷ []))) n c.turn.stages c.turn.cursor) _ c.turn._turn c.turn-test.true c.turn.invariant in
     first_of (search rules, grind (arith, common_steps))
 
 pub returns-in_err-stages : goal.returns-in_err-stages
 unfolding repeat
-returns-in_err-stages g c =
+returns-in_err-stages c =
     let e = one_more (λ n. repeat (λ _. has (look_up joints)) (λ ys ts. and_then (stage readers c.args.room ts) (λ y. pure (ys ++ y ∷ []))) n c.turn.stages c.turn.cursor) _ c.turn._turn c.turn-test.true c.turn.invariant in
     first_of (search rules, grind (arith, common_steps))
 
 pub turn-preserved : goal.turn-preserved
 unfolding repeat
-turn-preserved g c =
+turn-preserved c =
     let e = one_more (λ n. repeat (λ _. has (look_up joints)) (λ ys ts. and_then (stage readers c.args.room ts) (λ y. pure (ys ++ y ∷ []))) n c.turn.stages c.turn.cursor) _ c.turn._turn c.turn-test.true c.turn.invariant in
     first_of (search rules, grind (arith, common_steps))
 
 pub returns : goal.returns
 unfolding repeat
-returns g c =
+returns c =
     let e = no_more (λ n. repeat (λ _. has (look_up joints)) (λ ys ts. and_then (stage readers c.args.room ts) (λ y. pure (ys ++ y ∷ []))) n c.turn.stages c.turn.cursor) _ c.turn._turn c.turn-test.false c.turn.invariant in
     first_of (search rules, grind (arith, common_steps))
