@@ -22,3 +22,4 @@ pub mod Goes
 pub mod Placed
 pub mod Piped
 pub mod Pushed
+pub mod Afters

@@ -1,4 +1,4 @@
-ghost use Rattle.std.specs.Prelude.{◌≡◌, ◌∷◌, ◌++◌, [], true, length};
+ghost use Rattle.std.specs.Prelude.{◌≡◌, ◌∷◌, ◌++◌, [], true, length, IfOk};
 ghost use Rattle.parse_laws.specs.Parser.{sees, repeat, row_turn};
 ghost use Rattle.parse_laws.specs.Loops.{row_test, starts_in};
 ghost use Rattle.grammar_rules.specs.Words.{is_comma};
@@ -14,10 +14,19 @@ use parse_expressions::{Cursor, Measured, ParseError, read_expression};
 use parse_laws::Cause;
 use source_trees::{Commas, Expr};
 use sqlite_items::Items;
-use std::alloc::Global;
+use std::alloc::{AllocError, Global};
 
 /// Expressions and whether one may follow without a comma.
 type OpenItems = (Items<Expr>, bool);
+
+/// The expression as the only item.
+fn only(alloc: Global, item: Measured) -> Result<Items<Expr>, AllocError>
+    ensures { IfOk result (λ items. items ≡ item ∷ []) }
+{
+    let mut items = Items::new(alloc);
+    items.push(item.into_tree())?;
+    Ok(items)
+}
 
 /// Whether the next token is a comma, or begins an expression where one may follow.
 fn goes_on(cursor: &Cursor<'_>, row: &OpenItems) -> bool
@@ -81,8 +90,7 @@ fn tuple_after(
 {
     cursor.expect_op(b",".as_slice())?;
     let node = first.node();
-    let mut items = Items::new(alloc);
-    items.push(first.into_tree())?;
+    let items = only(alloc, first)?;
     let (items, _is_open) = more_items(alloc, cursor, room, items)?;
     Ok(Expr::Tuple(node, Commas::Bare, items))
 }
