@@ -1,5 +1,5 @@
-ghost use Rattle.std.specs.Prelude.{◌≡◌, ◌∷◌, ◌++◌, [], ◌&&◌, not, length, IfOk, Some, MatchOption};
-ghost use Rattle.parse_laws.specs.Parser.{sees, repeat, take_by, choose, expect, and_then, pure};
+ghost use Rattle.std.specs.Prelude.{◌≡◌, ◌&&◌, not, IfOk, Some};
+ghost use Rattle.parse_laws.specs.Parser.{sees, take_by, choose, expect, and_then, pure};
 ghost use Rattle.grammar_rules.specs.Words.{is_comma};
 ghost use Rattle.parse_expressions.specs.declared.form.Form.TheVariants.{Whole};
 ghost use Rattle.parse_expressions.specs.Reading.{read};
@@ -17,6 +17,7 @@ use parse_laws::Cause;
 use source_trees::{Expr, PrintOptions, Printed};
 use sqlite_items::Items;
 use std::alloc::{AllocError, Global};
+use std::mem;
 
 /// An option of `print`.
 #[derive(Clone, Copy, Debug, PartialEq, Eq)]
@@ -79,16 +80,46 @@ fn take_option(cursor: &mut Cursor<'_>, options: &PrintOptions) -> Result<PrintO
     Ok(option)
 }
 
+/// The first option.
+fn alone(option: PrintOption, tree: Expr) -> PrintOptions
+    ensures { result ≡ setter PrintOptions.Neither option tree }
+{
+    match option {
+        PrintOption::Sep => PrintOptions::Sep(tree),
+        PrintOption::End => PrintOptions::End(tree),
+    }
+}
+
+/// An option after `sep`.
+fn after_sep(sep: Expr, option: PrintOption, tree: Expr) -> PrintOptions
+    ensures { result ≡ setter (PrintOptions.Sep sep) option tree }
+{
+    match option {
+        PrintOption::Sep => PrintOptions::Sep(sep),
+        PrintOption::End => PrintOptions::SepEnd(sep, tree),
+    }
+}
+
+/// An option after `end`.
+fn after_end(end: Expr, option: PrintOption, tree: Expr) -> PrintOptions
+    ensures { result ≡ setter (PrintOptions.End end) option tree }
+{
+    match option {
+        PrintOption::Sep => PrintOptions::EndSep(end, tree),
+        PrintOption::End => PrintOptions::End(end),
+    }
+}
+
 /// These options and one more.
 fn with_option(options: PrintOptions, option: PrintOption, tree: Expr) -> PrintOptions
     ensures { result ≡ setter options option tree }
 {
-    match (options, option) {
-        (PrintOptions::Neither, PrintOption::Sep) => PrintOptions::Sep(tree),
-        (PrintOptions::Neither, PrintOption::End) => PrintOptions::End(tree),
-        (PrintOptions::Sep(sep), PrintOption::End) => PrintOptions::SepEnd(sep, tree),
-        (PrintOptions::End(end), PrintOption::Sep) => PrintOptions::EndSep(end, tree),
-        (options, _) => options,
+    match options {
+        PrintOptions::Neither => alone(option, tree),
+        PrintOptions::Sep(sep) => after_sep(sep, option, tree),
+        PrintOptions::End(end) => after_end(end, option, tree),
+        PrintOptions::SepEnd(sep, end) => PrintOptions::SepEnd(sep, end),
+        PrintOptions::EndSep(end, sep) => PrintOptions::EndSep(end, sep),
     }
 }
 
@@ -99,46 +130,53 @@ fn takes_one(printed: &Printed) -> bool
     matches!(printed.options, PrintOptions::Neither) && printed.values.len() < MOST_ITEMS
 }
 
-fn with_value(printed: Printed, tree: Expr) -> Result<Printed, AllocError>
-    ensures { IfOk result (λ p. p ≡ spec.with_value printed tree) }
+/// Puts a value at the end.
+fn add_value(printed: &mut Printed, tree: Expr) -> Result<(), AllocError>
+    ensures { IfOk result (λ _. printed.new ≡ spec.with_value printed.old tree) }
 {
-    let Printed {
-        mut values,
-        options,
-    } = printed;
-    values.push(tree)?;
-    Ok(Printed { values, options })
+    printed.values.push(tree)?;
+    Ok(())
+}
+
+/// Sets an option.
+fn set_option(printed: &mut Printed, option: PrintOption, tree: Expr)
+    ensures { printed.new ≡ spec.with_options printed.old (setter printed.old.options option tree) }
+{
+    let options = mem::replace(&mut printed.options, PrintOptions::Neither);
+    printed.options = with_option(options, option, tree);
 }
 
 /// `=` and the value of an option.
+#[tactic(auto, unfolding(crate::specs::Prints::set_to))]
 fn set_to(
     alloc: Global,
     cursor: &mut Cursor<'_>,
     room: u32,
-    printed: Printed,
+    printed: &mut Printed,
     option: PrintOption,
-) -> Result<Printed, ParseError>
-    ensures { Reads (spec.set_to readers room printed (Some (setter printed.options option)) cursor.old) result cursor.new }
+) -> Result<(), ParseError>
+    ensures { ReadsFor (λ _. printed.new) (spec.set_to readers room printed.old (Some (setter printed.old.options option)) cursor.old) result cursor.new }
 {
     cursor.expect_op(b"=".as_slice())?;
     let tree = read_expression(alloc, cursor, room)?;
-    let Printed { values, options } = printed;
-    let options = with_option(options, option, tree.into_tree());
-    Ok(Printed { values, options })
+    set_option(printed, option, tree.into_tree());
+    Ok(())
 }
 
 /// A value, or an option where `=` follows its name.
+#[tactic(auto, unfolding(crate::specs::Prints::set_to))]
 fn value_or_option(
     alloc: Global,
     cursor: &mut Cursor<'_>,
     room: u32,
-    printed: Printed,
-) -> Result<Printed, ParseError>
-    ensures { Reads (and_then (read room Whole cursor.old) (λ x. choose is_equals (spec.set_to readers room printed (spec.option_by printed.options x)) (pure (spec.with_value printed x)))) result cursor.new }
+    printed: &mut Printed,
+) -> Result<(), ParseError>
+    ensures { ReadsFor (λ _. printed.new) (and_then (read room Whole cursor.old) (λ x. choose is_equals (spec.set_to readers room printed.old (spec.option_by printed.old.options x)) (pure (spec.with_value printed.old x)))) result cursor.new }
 {
     let tree = read_expression(alloc, cursor, room)?.into_tree();
     if !cursor.sees_op(b"=".as_slice()) {
-        return Ok(with_value(printed, tree)?);
+        add_value(printed, tree)?;
+        return Ok(());
     }
     let Some(option) = option_by(&printed.options, &tree) else {
         return Err(ParseError::Refused(Cause::Unexpected));
@@ -152,11 +190,11 @@ fn print_item(
     alloc: Global,
     cursor: &mut Cursor<'_>,
     room: u32,
-    printed: Printed,
-) -> Result<Printed, ParseError>
-    ensures { Reads (spec.print_item readers room printed cursor.old) result cursor.new }
+    printed: &mut Printed,
+) -> Result<(), ParseError>
+    ensures { ReadsFor (λ _. printed.new) (spec.print_item readers room printed.old cursor.old) result cursor.new }
 {
-    if takes_one(&printed) {
+    if takes_one(printed) {
         return value_or_option(alloc, cursor, room, printed);
     }
     let option = take_option(cursor, &printed.options)?;
@@ -174,13 +212,14 @@ fn goes_on(cursor: &Cursor<'_>, printed: &Printed) -> bool
     }
 }
 
+/// A comma and one more value or option.
 fn print_turn(
     alloc: Global,
     cursor: &mut Cursor<'_>,
     room: u32,
-    printed: Printed,
-) -> Result<Printed, ParseError>
-    ensures { Reads (and_then (expect is_comma cursor.old) (λ _. spec.print_item readers room printed)) result cursor.new }
+    printed: &mut Printed,
+) -> Result<(), ParseError>
+    ensures { ReadsFor (λ _. printed.new) (and_then (expect is_comma cursor.old) (λ _. spec.print_item readers room printed.old)) result cursor.new }
 {
     cursor.expect_op(b",".as_slice())?;
     print_item(alloc, cursor, room, printed)
@@ -191,18 +230,30 @@ fn more_printed(
     alloc: Global,
     cursor: &mut Cursor<'_>,
     room: u32,
-    first: Printed,
-) -> Result<Printed, ParseError>
-    ensures { Reads (spec.more_printed readers room first cursor.old) result cursor.new }
+    printed: &mut Printed,
+) -> Result<(), ParseError>
+    ensures { ReadsFor (λ _. printed.new) (spec.more_printed readers room printed.old cursor.old) result cursor.new }
 {
-    let mut printed = first;
     'turn: for _turn in 0..cursor.left() {
-        if !goes_on(cursor, &printed) {
-            return Ok(printed);
+        if !goes_on(cursor, printed) {
+            return Ok(());
         }
-        printed = print_turn(alloc, cursor, room, printed)?;
+        print_turn(alloc, cursor, room, printed)?;
     }
-    Ok(printed)
+    Ok(())
+}
+
+/// The values and options, the first of which stands at the cursor.
+fn all_printed(
+    alloc: Global,
+    cursor: &mut Cursor<'_>,
+    room: u32,
+    printed: &mut Printed,
+) -> Result<(), ParseError>
+    ensures { ReadsFor (λ _. printed.new) (and_then (spec.print_item readers room printed.old cursor.old) (spec.more_printed readers room)) result cursor.new }
+{
+    print_item(alloc, cursor, room, printed)?;
+    more_printed(alloc, cursor, room, printed)
 }
 
 /// What stands in the brackets of `print(..)`.
@@ -214,9 +265,15 @@ pub fn read_printed(
 ) -> Result<Printed, ParseError>
     ensures { Reads (spec.printed readers room cursor.old) result cursor.new }
 {
+    let mut printed = nothing(alloc);
     if !cursor.begins(3) {
-        return Ok(nothing(alloc));
+        return Ok(printed);
     }
-    let first = print_item(alloc, cursor, room, nothing(alloc))?;
-    more_printed(alloc, cursor, room, first)
+    match all_printed(alloc, cursor, room, &mut printed) {
+        Ok(()) => Ok(printed),
+        Err(error) => {
+            drop(printed);
+            Err(error)
+        }
+    }
 }

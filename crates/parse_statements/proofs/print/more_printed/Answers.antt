@@ -17,9 +17,9 @@ returns-then-not-goes_on c =
     let e = one_more (λ n. repeat (λ q t. not (is_whole q.options) && is_comma t) (λ q ts. and_then (expect is_comma ts) (λ _. print_item readers c.args.room q)) n c.turn.printed c.turn.cursor) _ c.turn._turn c.turn-test.true c.turn.invariant in
     first_of (search rules, grind (arith, common_steps))
 
-pub returns-in_err-printed : goal.returns-in_err-printed
+pub returns-in_err-print_turn : goal.returns-in_err-printed
 unfolding repeat
-returns-in_err-printed c =
+returns-in_err-print_turn c =
     let e = one_more (λ n. repeat (λ q t. not (is_whole q.options) && is_comma t) (λ q ts. and_then (expect is_comma ts) (λ _. print_item readers c.args.room q)) n c.turn.printed c.turn.cursor) _ c.turn._turn c.turn-test.true c.turn.invariant in
     first_of (search rules, grind (arith, common_steps))
 
