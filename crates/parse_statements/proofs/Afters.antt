@@ -1,11 +1,11 @@
 -- What is read after a first item and a comma, from what the turns behind the comma read.
-use Rattle.std.proofs.Common.{◌≡◌, ℕ, Bool, true, List, [], ◌∷◌, ◌++◌, length, sym, ◌∙◌, ap}
+use Rattle.std.proofs.Common.{◌≡◌, ℕ, Bool, true, cond, List, [], ◌∷◌, ◌++◌, length, sym, ◌∙◌, ap, Option}
 use Rattle.indent_lexer.specs.declared.token.Token.{Token}
 use Rattle.source_trees.specs.declared.expression.Commas.TheVariants.{Bare}
 use Rattle.source_trees.specs.declared.expression.Expr.{Expr}
 use Rattle.source_trees.specs.declared.expression.Expr.TheVariants as tree
 use Rattle.source_trees.specs.declared.node.Node.{Node}
-use Rattle.parse_laws.specs.Parser.{Outcome, Parsed, Stopped, Parser, and_then, pure, expect, repeat, row_turn}
+use Rattle.parse_laws.specs.Parser.{Outcome, Parsed, Stopped, Parser, and_then, pure, expect, repeat, row_turn, sees}
 use Rattle.parse_laws.specs.Loops.{row_test, starts_in}
 use Rattle.grammar_rules.specs.Expressions.{node_of}
 use Rattle.grammar_rules.specs.Words.{is_comma}
@@ -17,6 +17,7 @@ use Rattle.parse_expressions.specs.Code.{IsStop}
 use Rattle.parse_statements.specs.Readers.{starts_expr, has_room}
 use Rattle.parse_statements.specs.Code.{readers}
 use Rattle.parse_statements.specs.Items.{tuple_after}
+use Rattle.parse_statements.specs.Stages.{argument, more_arguments, starts_argument}
 
 abbrev turns : ℕ → List Expr → List Token → Outcome Token (List Expr × Bool)
 turns n xs ts = repeat (row_test is_comma (starts_in has_room starts_expr)) (row_turn is_comma (λ _. read n Whole) (λ v y. v ++ y ∷ [])) (length ts) (xs, true) ts
@@ -39,3 +40,27 @@ pub tuple_stop : (n : ℕ) (x : Expr) (xs : List Expr) (ts mid rest : List Token
     → IsStop (turns n xs mid) k rest → IsStop (tuple_after readers n x ts) k rest
 tuple_stop n x xs ts mid rest t Memory e q h = h
 tuple_stop n x xs ts mid rest t (Refused k) e q h = after_comma n x xs ts mid t e q ∙ ap (λ o. and_then o (made x)) h
+
+-- ---- the arguments of a stage
+
+abbrev passes : ℕ → List (Option Expr) → List Token → Outcome Token (List (Option Expr) × Bool)
+passes n xs ts = repeat (row_test is_comma starts_argument) (row_turn is_comma (λ _. argument readers n) (λ v z. v ++ z ∷ [])) (length ts) (xs, true) ts
+
+abbrev passed : List (Option Expr) × Bool → Parser Token (List (Option Expr))
+passed s = pure s.0
+
+arguments_after : (n : ℕ) (y : Option Expr) (xs : List (Option Expr)) (ts mid : List Token) (t : Token) → sees is_comma ts ≡ true → expect is_comma ts ≡ Parsed t mid → xs ≡ y ∷ []
+    → more_arguments readers n y ts ≡ and_then (passes n xs mid) passed
+unfolding more_arguments
+arguments_after n y xs ts mid t seen e q =
+    ap (λ b. cond b (and_then (expect is_comma ts) (λ _ us. and_then (passes n (y ∷ []) us) passed)) (Parsed (y ∷ []) ts)) seen
+    ∙ (ap (λ o. and_then o (λ _ us. and_then (passes n (y ∷ []) us) passed)) e ∙ ap (λ ys. and_then (passes n ys mid) passed) (sym q))
+
+pub arguments_read : (n : ℕ) (y : Option Expr) (xs s : List (Option Expr)) (b : Bool) (ts mid rest : List Token) (t : Token) → sees is_comma ts ≡ true → expect is_comma ts ≡ Parsed t mid → xs ≡ y ∷ []
+    → passes n xs mid ≡ Parsed (s, b) rest → more_arguments readers n y ts ≡ Parsed s rest
+arguments_read n y xs s b ts mid rest t seen e q h = arguments_after n y xs ts mid t seen e q ∙ ap (λ o. and_then o passed) h
+
+pub arguments_stop : (n : ℕ) (y : Option Expr) (xs : List (Option Expr)) (ts mid rest : List Token) (t : Token) (k : ParseError) → sees is_comma ts ≡ true → expect is_comma ts ≡ Parsed t mid → xs ≡ y ∷ []
+    → IsStop (passes n xs mid) k rest → IsStop (more_arguments readers n y ts) k rest
+arguments_stop n y xs ts mid rest t Memory seen e q h = h
+arguments_stop n y xs ts mid rest t (Refused k) seen e q h = arguments_after n y xs ts mid t seen e q ∙ ap (λ o. and_then o passed) h

@@ -230,6 +230,7 @@ pub fn update(
 }
 
 /// The tuple of these items, where they make one, as a statement.
+#[tactic(auto, unfolding(crate::specs::Heads::evaluate, grammar_rules::specs::Expressions::node_of))]
 fn evaluate_row(cursor: &Cursor<'_>, node: Node, heads: Heads) -> Result<Stmt, ParseError>
     ensures { Reads (spec.evaluate readers (spec.is_value heads) (Expr.Tuple node Bare heads) cursor.now) result cursor.now }
 {
@@ -270,8 +271,8 @@ pub fn row_after(
     requires { node ≡ node_of first }
     ensures { Reads (spec.row_after readers room first cursor.old) result cursor.new }
 {
-    cursor.expect_op(b",".as_slice())?;
     let heads = Heads::new(alloc).push(first)?;
+    cursor.expect_op(b",".as_slice())?;
     let (heads, _is_open) = more_heads(alloc, cursor, room.saturating_sub(2), heads)?;
     row_end(alloc, cursor, room, node, heads)
 }
