@@ -3,6 +3,7 @@ ghost use Rattle.parse_laws.specs.Parser.{within, pure, and_then};
 ghost use Rattle.grammar_rules.specs.Levels.{word_of};
 ghost use Rattle.grammar_rules.specs.Words.{is_keyword};
 ghost use Rattle.parse_expressions.specs.Reading as spec;
+ghost use Rattle.parse_expressions.specs.Splits.{otherwise};
 ghost use Rattle.parse_expressions.specs.Code.{Reads, Subs};
 
 use crate::cursor::node_at;
@@ -208,19 +209,33 @@ impl<F: Fn(Global, &mut Cursor<'_>, u32, Form) -> Result<Measured, ParseError>> 
         Ok(tree)
     }
 
+    /// What follows the condition of a conditional expression.
+    #[tactic(auto, unfolding(crate::specs::Splits::otherwise))]
+    fn otherwise(
+        &self,
+        cursor: &mut Cursor<'_>,
+        value: Measured,
+        condition: Measured,
+    ) -> Result<Measured, ParseError>
+        requires { Subs self.now.room (F.pre self.now.sub) (F.post self.now.sub) }
+        ensures { Reads (otherwise self.now.room (spec.read self.now.room) value condition cursor.old) result cursor.new }
+    {
+        cursor.expect_keyword(b"else".as_slice())?;
+        let other = self.sub(cursor, Form::Whole)?;
+        let node = value.node();
+        let tree = measured::conditional(self.alloc, node, value, condition, other)?;
+        Ok(tree)
+    }
+
     /// What follows the value of a conditional expression.
-    #[tactic(auto, unfolding(crate::specs::Reading::conditional))]
+    #[tactic(auto, unfolding(crate::specs::Reading::conditional, crate::specs::Splits::otherwise))]
     fn conditional(&self, cursor: &mut Cursor<'_>, value: Measured) -> Result<Measured, ParseError>
         requires { Subs self.now.room (F.pre self.now.sub) (F.post self.now.sub) }
         ensures { Reads (spec.conditional self.now.room (spec.read self.now.room) value cursor.old) result cursor.new }
     {
         cursor.expect_keyword(b"if".as_slice())?;
         let condition = self.sub(cursor, Form::Joined(Junction::Or))?;
-        cursor.expect_keyword(b"else".as_slice())?;
-        let other = self.sub(cursor, Form::Whole)?;
-        let node = value.node();
-        let tree = measured::conditional(self.alloc, node, value, condition, other)?;
-        Ok(tree)
+        self.otherwise(cursor, value, condition)
     }
 
     /// Any expression.
