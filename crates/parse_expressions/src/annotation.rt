@@ -108,7 +108,7 @@ impl<'a> Cursor<'a> {
     }
 
     /// Whether the next token begins a type.
-    fn begins_type(&self) -> bool
+    pub fn begins_type(&self) -> bool
         ensures { result ≡ sees spec.type_begins self.now }
     {
         match self.first() {
@@ -134,11 +134,11 @@ fn goes_on(cursor: &Cursor<'_>, types: &Items<Annotation>) -> bool
 
 /// What reads types: the memory, how high the parts of a type may be, and what reads the parts.
 #[derive(Clone, Copy)]
-struct Types<F> {
-    alloc: Global,
+pub struct Types<F> {
+    pub alloc: Global,
     /// The greatest height of a part. The type may be one higher.
-    room: u32,
-    sub: F,
+    pub room: u32,
+    pub sub: F,
 }
 
 impl<F: Fn(Global, &mut Cursor<'_>, u32) -> Result<Annotation, ParseError>> Types<F> {
@@ -252,7 +252,7 @@ impl<F: Fn(Global, &mut Cursor<'_>, u32) -> Result<Annotation, ParseError>> Type
 
     /// A type by what it begins with.
     #[tactic(auto, unfolding(crate::specs::TypeReading::type_at, crate::specs::TypeReading::type_from))]
-    fn type_at(&self, cursor: &mut Cursor<'_>) -> Result<Annotation, ParseError>
+    pub fn type_at(&self, cursor: &mut Cursor<'_>) -> Result<Annotation, ParseError>
         requires { TypeSubs self.now.room (F.pre self.now.sub) (F.post self.now.sub) }
         ensures { Reads (spec.type_at self.now.room (spec.read_type self.now.room) cursor.old) result cursor.new }
     {

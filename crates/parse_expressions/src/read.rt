@@ -11,7 +11,7 @@ use parse_laws::Cause;
 use std::alloc::Global;
 
 /// How loose a form is that may begin with any token that begins it: 1 for an atom, 2 with signs, 3 with `not`.
-fn opening(form: Form) -> u8
+pub fn opening(form: Form) -> u8
     ensures { result ≡ opening form }
 {
     match form {

@@ -1,4 +1,5 @@
 ghost use Rattle.std.specs.Prelude.{◌≡◌, ◌<◌, ◌-◌};
+ghost use Rattle.source_trees.specs.declared.expression.Expr.{Expr};
 ghost use Rattle.parse_laws.specs.Parser.{sees, has, within};
 ghost use Rattle.parse_expressions.specs.Reading.{plain_at, slice_from, dotted};
 ghost use Rattle.parse_expressions.specs.Reading as reading;
@@ -29,7 +30,7 @@ impl<'a> Cursor<'a> {
 
     /// Refuses the next token: as too deep where it begins a form of this tightness.
     fn too_deep(&self, opening: u8) -> ParseError
-        ensures { IsStop (spec.too_deep opening self.now) result self.now }
+        ensures { IsStop {A = Expr} (spec.too_deep opening self.now) result self.now }
     {
         if self.begins(opening) {
             ParseError::Refused(Cause::TooDeep)
