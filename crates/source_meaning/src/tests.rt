@@ -1,5 +1,6 @@
 mod build;
 mod depths;
+mod entry_ticks;
 mod expressions;
 mod functions;
 mod generators;
@@ -7,9 +8,10 @@ mod lists;
 mod names;
 mod pipelines;
 mod regions;
+mod sharing;
 mod stack;
 mod statements;
-mod ticks;
+mod turn_ticks;
 
 use crate::{PlainEnd, run_plain};
 use build::Trees;
