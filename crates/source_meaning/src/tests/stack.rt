@@ -17,6 +17,11 @@ enum Nested {
     Iterable,
     Condition,
     Gathered,
+    Both,
+    Place,
+    Bound,
+    Method,
+    Given,
     Chain,
 }
 
@@ -47,6 +52,11 @@ impl<'a, R: Abort> Trees<'a, R> {
                 e,
             ),
             Nested::Gathered => self.call("list", [e]),
+            Nested::Both => self.all_of([self.truth(true), e]),
+            Nested::Place => self.index(self.list([self.int(1)]), e),
+            Nested::Bound => self.slice(self.list([self.int(1)]), Some(e), None),
+            Nested::Method => self.method(self.list([]), "append", [e]),
+            Nested::Given => self.call("g", [e]),
             Nested::Chain => {
                 let part = Expr::Bracketed(NODE, self.part(e));
                 self.compare(self.int(0), [than(Comparator::Less, part)])
@@ -63,11 +73,11 @@ impl<'a, R: Abort> Trees<'a, R> {
         }
     }
 
-    /// An expression below as many others as stand in a tree that is no higher than 100.
+    /// An expression below others, which make it 96 higher.
     fn below(&self, form: Nested, e: Expr) -> Expr {
         let levels = match form {
-            Nested::Chain => 47,
-            _ => 94,
+            Nested::Chain => 48,
+            _ => 96,
         };
         let mut e = e;
         'levels: for _ in 0..levels {
@@ -76,11 +86,11 @@ impl<'a, R: Abort> Trees<'a, R> {
         e
     }
 
-    /// A statement below as many others as stand in a tree that is no higher than 100.
-    fn deep(&self, form: Block, s: Stmt) -> Stmt {
+    /// A statement below others, which make it so much higher, or one less where a level counts for two.
+    fn deep(&self, form: Block, s: Stmt, height: u32) -> Stmt {
         let levels = match form {
-            Block::Par => 47,
-            _ => 94,
+            Block::Par => height / 2,
+            _ => height,
         };
         let mut s = s;
         'levels: for _ in 0..levels {
@@ -106,7 +116,7 @@ impl<'a, R: Abort> Trees<'a, R> {
 
     /// A function that does nothing.
     fn idle(&self) -> Item {
-        self.function("g", [], [Stmt::Pass(NODE)])
+        self.function("g", [self.param("x")], [Stmt::Pass(NODE)])
     }
 }
 
@@ -117,6 +127,13 @@ const DEEPEST: Case<'static> = Case {
     out: b"",
     end: Wanted::TooDeep,
 };
+
+/// Runs a module that is as high as a source may be.
+fn expect_deepest<R: Abort>(t: &Trees<'_, R>, module: Module) -> Result<(), Fail> {
+    let rt = t.rt;
+    assert_eq!(rt; module.height(), 100);
+    expect(t, module, DEEPEST)
+}
 
 #[test]
 fn nested_expressions_stay_within_the_native_stack(rt: HostRuntime) -> Result<(), Fail> {
@@ -135,11 +152,16 @@ fn nested_expressions_stay_within_the_native_stack(rt: HostRuntime) -> Result<()
         Nested::Iterable,
         Nested::Condition,
         Nested::Gathered,
+        Nested::Both,
+        Nested::Place,
+        Nested::Bound,
+        Nested::Method,
+        Nested::Given,
         Nested::Chain,
     ] {
         let e = t.below(form, t.call("f", []));
         let f = t.function("f", [], [Stmt::Return(NODE, Some(e))]);
-        expect(&t, t.calls([t.idle(), f]), DEEPEST)?;
+        expect_deepest(&t, t.calls([t.idle(), f]))?;
     }
     Ok(())
 }
@@ -151,8 +173,8 @@ fn nested_statements_stay_within_the_native_stack(rt: HostRuntime) -> Result<(),
         alloc: rt.alloc(),
     };
     for form in [Block::If, Block::While, Block::For, Block::Par] {
-        let f = t.function("f", [], [t.deep(form, t.again())]);
-        expect(&t, t.calls([t.idle(), f]), DEEPEST)?;
+        let f = t.function("f", [], [t.deep(form, t.again(), 96)]);
+        expect_deepest(&t, t.calls([t.idle(), f]))?;
     }
     Ok(())
 }
@@ -171,7 +193,7 @@ fn loops_over_nested_expressions_stay_within_the_native_stack(rt: HostRuntime) -
     ] {
         let e = t.below(form, t.call("f", []));
         let f = t.function("f", [], [t.over(t.one("x"), e, [Stmt::Pass(NODE)])]);
-        expect(&t, t.calls([t.idle(), f]), DEEPEST)?;
+        expect_deepest(&t, t.calls([t.idle(), f]))?;
     }
     Ok(())
 }
@@ -183,11 +205,11 @@ fn generators_stay_within_the_native_stack(rt: HostRuntime) -> Result<(), Fail> 
         alloc: rt.alloc(),
     };
     for form in [Block::If, Block::For, Block::Par] {
-        let item = t.deep(Block::For, Stmt::Yield(NODE, t.int(1)));
+        let item = t.deep(Block::For, Stmt::Yield(NODE, t.int(1)), 97);
         let g = t.function("g", [], [item]);
-        let turn = t.deep(form, t.again());
+        let turn = t.deep(form, t.again(), 95);
         let f = t.function("f", [], [t.over(t.one("x"), t.call("g", []), [turn])]);
-        expect(&t, t.calls([g, f]), DEEPEST)?;
+        expect_deepest(&t, t.calls([g, f]))?;
     }
     Ok(())
 }
