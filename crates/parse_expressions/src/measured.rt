@@ -3,9 +3,11 @@
 ghost use Rattle.std.specs.Prelude.{◌≡◌, ◌≤◌, ◌<◌, ◌^◌, ◌++◌, [], ◌∷◌, ◌≢◌, IfOk, IfErr, IsTrue, ◌↔◌, map, length, min};
 ghost use Rattle.source_trees.specs.Heights.{height_of_expr, highest, over_parts};
 ghost use Rattle.source_trees.specs.Parts.{of_comparison};
+ghost use Rattle.parse_expressions.specs.Reading.{heights};
 ghost use Rattle.grammar_rules.specs.Levels.{joined};
 ghost use Rattle.grammar_rules.specs.Expressions.{node_of};
 ghost use Rattle.parse_expressions.specs.Reading as spec;
+ghost use Rattle.parse_expressions.specs.Targets.{is_pointed};
 
 use codon_base::{Spelling, Text};
 use grammar_rules::Junction;
@@ -129,6 +131,19 @@ impl Measured {
         }
     }
 
+    /// Whether it is a name, an index or a field, to which an assignment may write.
+    #[tactic(auto, unfolding(crate::specs::Targets::target_of))]
+    pub fn is_target(&self) -> bool
+        ensures { result ≡ is_pointed self.now }
+    {
+        match &self.tree {
+            Expr::Name(_, _) => true,
+            Expr::Index(_, _, _) => true,
+            Expr::Field(_, _, _) => true,
+            _ => false,
+        }
+    }
+
     /// The height of the tree.
     pub fn height(&self) -> usize
         ensures { result ≡ min (height_of_expr self.now) usize.MAX }
@@ -159,6 +174,17 @@ impl Row {
         ensures { result ≡ min (highest (map height_of_expr self.now)) usize.MAX }
     {
         self.height
+    }
+
+    /// Puts the trees of another row at the end.
+    #[tactic(auto, using(crate::proofs::Lows::highest_joined))]
+    pub fn append(self, more: Row) -> Result<Row, AllocError>
+        ensures { IfOk result (λ r. r ≡ self ++ more) }
+    {
+        let Row { mut items, height } = self;
+        let height = height.max(more.height);
+        items.append(more.items)?;
+        Ok(Row { items, height })
     }
 
     /// Puts a tree at the end.
@@ -492,6 +518,73 @@ pub fn compare(
     let first = Boxed::new(alloc, first.into_tree())?;
     Ok(Measured {
         tree: Expr::Compare(node, first, items),
+        height,
+    })
+}
+
+/// `object[from:to]`.
+#[tactic(auto, using(crate::proofs::Heights::slice_height))]
+pub fn slice(
+    alloc: Global,
+    node: Node,
+    object: Measured,
+    from: Option<Measured>,
+    to: Option<Measured>,
+) -> Result<Measured, AllocError>
+    ensures { IfOk result (λ x. x ≡ Expr.Slice node object from to) }
+{
+    let bounds = height_of(&from).max(height_of(&to));
+    let height = object.height().max(bounds).saturating_add(1);
+    let object = Boxed::new(alloc, object.into_tree())?;
+    let from = boxed(alloc, from)?;
+    let to = boxed(alloc, to)?;
+    Ok(Measured {
+        tree: Expr::Slice(node, object, from, to),
+        height,
+    })
+}
+
+/// The height of a tree that may be absent, 0 where it is.
+pub fn height_of(tree: &Option<Measured>) -> usize
+    ensures { result ≡ min (highest (heights tree.now)) usize.MAX }
+{
+    match tree {
+        None => 0,
+        Some(tree) => tree.height(),
+    }
+}
+
+fn boxed(alloc: Global, tree: Option<Measured>) -> Result<Option<Boxed<Expr>>, AllocError>
+    ensures { IfOk result (λ x. x ≡ tree) }
+{
+    match tree {
+        None => Ok(None),
+        Some(tree) => Ok(Some(Boxed::new(alloc, tree.into_tree())?)),
+    }
+}
+
+/// `[item for names in iterable]`, or with a condition.
+#[tactic(auto, using(crate::proofs::Lows::comprehension_height))]
+pub fn comprehension(
+    alloc: Global,
+    node: Node,
+    item: Measured,
+    names: LoopNames,
+    iterable: Measured,
+    condition: Option<Measured>,
+) -> Result<Measured, AllocError>
+    ensures { IfOk result (λ x. x ≡ Expr.Comprehension node item names iterable condition) }
+{
+    let parts = item
+        .height()
+        .max(iterable.height())
+        .max(height_of(&condition));
+    let height = parts.saturating_add(1);
+    let item = Boxed::new(alloc, item.into_tree())?;
+    let iterable = Boxed::new(alloc, iterable.into_tree())?;
+    let condition = boxed(alloc, condition)?;
+    Ok(Measured {
+        tree: Expr::Comprehension(node, item, names, iterable, condition),
         height,
     })
 }

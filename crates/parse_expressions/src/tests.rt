@@ -1,9 +1,12 @@
 use crate::measured::{bracketed, list, name_tree};
-use crate::{Cursor, ParseError, Row, Start, TypeStart, start_of, type_start_of};
+use crate::{
+    Cursor, ParseError, Row, Start, TypeStart, read_expression, read_target, read_type, start_of,
+    type_start_of,
+};
 use grammar_rules::Rank;
 use indent_lexer::lex;
 use parse_laws::Cause;
-use source_trees::{BinaryOp, Expr, LoopNames};
+use source_trees::{Annotation, BinaryOp, Expr, LoopNames};
 use std::alloc::Global;
 use std::process::Abort;
 use std::test::Fail;
@@ -205,4 +208,279 @@ fn a_built_tree_keeps_its_height(rt: HostRuntime) {
         Err(_) => 0,
     };
     assert_eq!(rt; height, 3);
+}
+
+fn form_of(tree: &Expr) -> &'static str {
+    match tree {
+        Expr::Name(_, _) => "name",
+        Expr::Number(_, _) => "number",
+        Expr::Text(_, _) => "text",
+        Expr::True(_) => "true",
+        Expr::False(_) => "false",
+        Expr::None(_) => "none",
+        Expr::Bracketed(_, _) => "bracketed",
+        Expr::Tuple(_, _, _) => "tuple",
+        Expr::List(_, _) => "list",
+        Expr::Comprehension(_, _, _, _, _) => "comprehension",
+        Expr::Conditional(_, _, _, _) => "conditional",
+        Expr::Or(_, _) => "or",
+        Expr::And(_, _) => "and",
+        Expr::Not(_, _) => "not",
+        Expr::Compare(_, _, _) => "compare",
+        Expr::Unary(_, _, _) => "unary",
+        Expr::Binary(_, _, _, _) => "binary",
+        Expr::Call(_, _, _) => "call",
+        Expr::MethodCall(_, _, _, _, _) => "method",
+        Expr::Index(_, _, _) => "index",
+        Expr::Slice(_, _, _, _) => "slice",
+        Expr::Field(_, _, _) => "field",
+    }
+}
+
+/// The form of the left operand, or of the tree itself where it is no operation.
+fn left_of(tree: &Expr) -> &'static str {
+    match tree {
+        Expr::Binary(_, _, left, _) => form_of(left.get()),
+        _ => form_of(tree),
+    }
+}
+
+/// What is read: the form and that of the left operand, the height, and how many tokens are left after it; or the cause
+/// and how many tokens are left from the refused one.
+fn read_of(
+    alloc: Global,
+    text: &[u8],
+    room: u32,
+) -> Option<(&'static str, &'static str, usize, usize)> {
+    let Ok(tokens) = lex(alloc, text) else {
+        return None;
+    };
+    let mut cursor = Cursor::new(tokens.as_slice());
+    match read_expression(alloc, &mut cursor, room) {
+        Ok(tree) => {
+            let height = tree.height();
+            let tree = tree.into_tree();
+            Some((form_of(&tree), left_of(&tree), height, cursor.left()))
+        }
+        Err(ParseError::Refused(Cause::Unexpected)) => {
+            Some(("refused", "unexpected", 0, cursor.left()))
+        }
+        Err(ParseError::Refused(Cause::TooDeep)) => Some(("refused", "too deep", 0, cursor.left())),
+        Err(ParseError::Memory) => None,
+    }
+}
+
+#[test]
+fn operators_bind_by_rank(rt: HostRuntime) {
+    let alloc = rt.alloc();
+    assert_eq!(rt;
+        read_of(alloc, b"1 - 2 - 3", 9),
+        Some(("binary", "binary", 3, 2))
+    );
+    assert_eq!(rt;
+        read_of(alloc, b"1 - 2 * 3", 9),
+        Some(("binary", "number", 3, 2))
+    );
+    assert_eq!(rt;
+        read_of(alloc, b"1 | 2 ^ 3 & 4 << 5 + 6 * 7", 9),
+        Some(("binary", "number", 7, 2))
+    );
+    assert_eq!(rt;
+        read_of(alloc, b"2 ** 3 ** 4", 9),
+        Some(("binary", "number", 3, 2))
+    );
+    assert_eq!(rt;
+        read_of(alloc, b"-2 ** 3", 9),
+        Some(("unary", "unary", 3, 2))
+    );
+    assert_eq!(rt;
+        read_of(alloc, b"not x in y", 9),
+        Some(("not", "not", 3, 2))
+    );
+    assert_eq!(rt;
+        read_of(alloc, b"a < b == c not in d", 9),
+        Some(("compare", "compare", 2, 2))
+    );
+    assert_eq!(rt;
+        read_of(alloc, b"a or b and c or d", 9),
+        Some(("or", "or", 3, 2))
+    );
+    assert_eq!(rt;
+        read_of(alloc, b"a if b else c if d else e", 9),
+        Some(("conditional", "conditional", 3, 2))
+    );
+}
+
+#[test]
+fn atoms_and_what_follows_them(rt: HostRuntime) {
+    let alloc = rt.alloc();
+    assert_eq!(rt;
+        read_of(alloc, b"(x)", 9),
+        Some(("bracketed", "bracketed", 2, 2))
+    );
+    assert_eq!(rt; read_of(alloc, b"(x,)", 9), Some(("tuple", "tuple", 2, 2)));
+    assert_eq!(rt; read_of(alloc, b"[]", 9), Some(("list", "list", 1, 2)));
+    assert_eq!(rt; read_of(alloc, b"[x, 1,]", 9), Some(("list", "list", 2, 2)));
+    assert_eq!(rt;
+        read_of(alloc, b"[x for x, y in z if x]", 9),
+        Some(("comprehension", "comprehension", 2, 2))
+    );
+    assert_eq!(rt; read_of(alloc, b"f(x, y)", 9), Some(("call", "call", 2, 2)));
+    assert_eq!(rt;
+        read_of(alloc, b"x.f(y).g", 9),
+        Some(("field", "field", 4, 2))
+    );
+    assert_eq!(rt;
+        read_of(alloc, b"x[1][2:]", 9),
+        Some(("slice", "slice", 3, 2))
+    );
+    assert_eq!(rt; read_of(alloc, b"x[:]", 9), Some(("slice", "slice", 2, 2)));
+    assert_eq!(rt;
+        read_of(alloc, b"'a' 'b'.c", 9),
+        Some(("field", "field", 2, 2))
+    );
+}
+
+#[test]
+fn the_first_bad_token_of_an_expression(rt: HostRuntime) {
+    let alloc = rt.alloc();
+    assert_eq!(rt;
+        read_of(alloc, b"1 + ) + 2", 9),
+        Some(("refused", "unexpected", 0, 5))
+    );
+    assert_eq!(rt;
+        read_of(alloc, b"()", 9),
+        Some(("refused", "unexpected", 0, 3))
+    );
+    assert_eq!(rt;
+        read_of(alloc, b"x[]", 9),
+        Some(("refused", "unexpected", 0, 3))
+    );
+    assert_eq!(rt;
+        read_of(alloc, b"x + print", 9),
+        Some(("refused", "unexpected", 0, 3))
+    );
+    assert_eq!(rt;
+        read_of(alloc, b"a if b", 9),
+        Some(("refused", "unexpected", 0, 2))
+    );
+    assert_eq!(rt;
+        read_of(alloc, b"1 + 2 + 3", 2),
+        Some(("refused", "too deep", 0, 4))
+    );
+    assert_eq!(rt;
+        read_of(alloc, b"((x))", 2),
+        Some(("refused", "too deep", 0, 6))
+    );
+    assert_eq!(rt;
+        read_of(alloc, b"x", 0),
+        Some(("refused", "too deep", 0, 3))
+    );
+    assert_eq!(rt;
+        read_of(alloc, b")", 0),
+        Some(("refused", "unexpected", 0, 3))
+    );
+    assert_eq!(rt;
+        read_of(alloc, b"-x", 1),
+        Some(("refused", "too deep", 0, 4))
+    );
+}
+
+/// What is read of a target, as `read_of` answers of an expression, without its left operand.
+fn target_of(alloc: Global, text: &[u8], room: u32) -> Option<(&'static str, usize, usize)> {
+    let Ok(tokens) = lex(alloc, text) else {
+        return None;
+    };
+    let mut cursor = Cursor::new(tokens.as_slice());
+    match read_target(alloc, &mut cursor, room) {
+        Ok(tree) => {
+            let height = tree.height();
+            Some((form_of(&tree.into_tree()), height, cursor.left()))
+        }
+        Err(ParseError::Refused(Cause::Unexpected)) => Some(("unexpected", 0, cursor.left())),
+        Err(ParseError::Refused(Cause::TooDeep)) => Some(("too deep", 0, cursor.left())),
+        Err(ParseError::Memory) => None,
+    }
+}
+
+#[test]
+fn targets_and_their_first_bad_token(rt: HostRuntime) {
+    let alloc = rt.alloc();
+    assert_eq!(rt; target_of(alloc, b"x = 1", 9), Some(("name", 1, 4)));
+    assert_eq!(rt; target_of(alloc, b"x[1] = 1", 9), Some(("index", 2, 4)));
+    assert_eq!(rt; target_of(alloc, b"x.y = 1", 9), Some(("field", 2, 4)));
+    assert_eq!(rt; target_of(alloc, b"x[1:].y = 1", 9), Some(("field", 3, 4)));
+    assert_eq!(rt; target_of(alloc, b"f(x)[1] = 1", 9), Some(("index", 3, 4)));
+    assert_eq!(rt; target_of(alloc, b"1 = 1", 9), Some(("unexpected", 0, 4)));
+    assert_eq!(rt;
+        target_of(alloc, b"x[1:] = 1", 9),
+        Some(("unexpected", 0, 4))
+    );
+    assert_eq!(rt;
+        target_of(alloc, b"x.y() = 1", 9),
+        Some(("unexpected", 0, 4))
+    );
+    assert_eq!(rt; target_of(alloc, b"-x = 1", 9), Some(("unexpected", 0, 6)));
+}
+
+#[test]
+fn what_is_no_target_has_one_level_less(rt: HostRuntime) {
+    let alloc = rt.alloc();
+    assert_eq!(rt; target_of(alloc, b"x = 1", 0), Some(("too deep", 0, 5)));
+    assert_eq!(rt; target_of(alloc, b"x = 1", 1), Some(("name", 1, 4)));
+    assert_eq!(rt; target_of(alloc, b"1 = 1", 1), Some(("too deep", 0, 5)));
+    assert_eq!(rt; target_of(alloc, b"x.y", 1), Some(("too deep", 0, 4)));
+    assert_eq!(rt; target_of(alloc, b"f()", 2), Some(("too deep", 0, 4)));
+    assert_eq!(rt; target_of(alloc, b"x[1]", 2), Some(("index", 2, 2)));
+    assert_eq!(rt; target_of(alloc, b"x[1:]", 2), Some(("too deep", 0, 4)));
+    assert_eq!(rt; target_of(alloc, b"x[:].y", 3), Some(("field", 3, 2)));
+    assert_eq!(rt; target_of(alloc, b"x.y()", 2), Some(("too deep", 0, 4)));
+    assert_eq!(rt; target_of(alloc, b"x.y().z", 4), Some(("field", 4, 2)));
+}
+
+/// What is read of a type, as `read_of` answers of an expression.
+fn type_of(alloc: Global, text: &[u8], room: u32) -> Option<(&'static str, usize)> {
+    let Ok(tokens) = lex(alloc, text) else {
+        return None;
+    };
+    let mut cursor = Cursor::new(tokens.as_slice());
+    let form = match read_type(alloc, &mut cursor, room) {
+        Ok(Annotation::Int(_)) => "int",
+        Ok(Annotation::Bool(_)) => "bool",
+        Ok(Annotation::Str(_)) => "str",
+        Ok(Annotation::None(_)) => "none",
+        Ok(Annotation::Class(_, _)) => "class",
+        Ok(Annotation::List(_, _)) => "list",
+        Ok(Annotation::Tuple(_, _)) => "tuple",
+        Err(ParseError::Refused(Cause::Unexpected)) => "unexpected",
+        Err(ParseError::Refused(Cause::TooDeep)) => "too deep",
+        Err(ParseError::Memory) => return None,
+    };
+    Some((form, cursor.left()))
+}
+
+#[test]
+fn types_and_their_first_bad_token(rt: HostRuntime) {
+    let alloc = rt.alloc();
+    assert_eq!(rt; type_of(alloc, b"int =", 9), Some(("int", 3)));
+    assert_eq!(rt; type_of(alloc, b"bool", 9), Some(("bool", 2)));
+    assert_eq!(rt; type_of(alloc, b"str", 9), Some(("str", 2)));
+    assert_eq!(rt; type_of(alloc, b"None", 9), Some(("none", 2)));
+    assert_eq!(rt; type_of(alloc, b"Point", 9), Some(("class", 2)));
+    assert_eq!(rt; type_of(alloc, b"list", 9), Some(("class", 2)));
+    assert_eq!(rt; type_of(alloc, b"List[list[int]]", 9), Some(("list", 2)));
+    assert_eq!(rt;
+        type_of(alloc, b"Tuple[int, list[str]]", 9),
+        Some(("tuple", 2))
+    );
+    assert_eq!(rt; type_of(alloc, b"tuple[]", 9), Some(("unexpected", 3)));
+    assert_eq!(rt;
+        type_of(alloc, b"list[int, int]", 9),
+        Some(("unexpected", 5))
+    );
+    assert_eq!(rt;
+        type_of(alloc, b"list[list[int]]", 2),
+        Some(("too deep", 6))
+    );
+    assert_eq!(rt; type_of(alloc, b"int", 0), Some(("too deep", 3)));
 }
