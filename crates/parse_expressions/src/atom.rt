@@ -21,11 +21,11 @@ fn round_tree(alloc: Global, first: &Token, row: Row, more: bool) -> Result<Meas
     ensures { IfOk result (λ x. x ≡ spec.round_tree first.now (row, more)) }
 {
     if more {
-        return Ok(measured::tuple(node_at(first), Commas::Bracketed, row));
+        return Ok(measured::tuple(alloc, node_at(first), Commas::Bracketed, row)?);
     }
-    match row.single() {
+    match row.single(alloc)? {
         Ok(inner) => Ok(measured::bracketed(alloc, node_at(first), inner)?),
-        Err(row) => Ok(measured::tuple(node_at(first), Commas::Bracketed, row)),
+        Err(row) => Ok(measured::tuple(alloc, node_at(first), Commas::Bracketed, row)?),
     }
 }
 
@@ -37,13 +37,15 @@ impl<F: Fn(Global, &mut Cursor<'_>, u32, Form) -> Result<Measured, ParseError>> 
         ensures { Reads (spec.named_rest self.now.room (spec.read self.now.room) name cursor.old) result cursor.new }
     {
         if !cursor.sees_op(b"(".as_slice()) {
-            return Ok(measured::name_tree(name));
+            let tree = measured::name_tree(self.alloc, name)?;
+            return Ok(tree);
         }
         if self.room < 1 {
             return Err(ParseError::Refused(Cause::TooDeep));
         }
         let row = self.arguments(cursor)?;
-        Ok(measured::call(name, row))
+        let tree = measured::call(self.alloc, name, row)?;
+        Ok(tree)
     }
 
     /// What stands in round brackets.
@@ -143,7 +145,8 @@ impl<F: Fn(Global, &mut Cursor<'_>, u32, Form) -> Result<Measured, ParseError>> 
         let items = Row::new(self.alloc).push(item)?;
         let (row, _more) = self.rest(cursor, items, false)?;
         cursor.expect_op(b"]".as_slice())?;
-        Ok(measured::list(node_at(first), row))
+        let tree = measured::list(self.alloc, node_at(first), row)?;
+        Ok(tree)
     }
 
     /// What stands in square brackets.
@@ -155,7 +158,8 @@ impl<F: Fn(Global, &mut Cursor<'_>, u32, Form) -> Result<Measured, ParseError>> 
         let first = cursor.expect_op(b"[".as_slice())?;
         if cursor.sees_op(b"]".as_slice()) {
             cursor.expect_op(b"]".as_slice())?;
-            return Ok(measured::list(node_at(first), Row::new(self.alloc)));
+            let tree = measured::list(self.alloc, node_at(first), Row::new(self.alloc))?;
+            return Ok(tree);
         }
         let item = self.sub(cursor, Form::Whole)?;
         if cursor.sees_keyword(b"for".as_slice()) {
@@ -182,7 +186,7 @@ impl<F: Fn(Global, &mut Cursor<'_>, u32, Form) -> Result<Measured, ParseError>> 
     {
         match start_of(cursor) {
             Start::Named => self.named(cursor),
-            Start::Leaf => cursor.take_leaf(),
+            Start::Leaf => cursor.take_leaf(self.alloc),
             Start::Texts => cursor.texts(self.alloc),
             Start::Round => self.round(cursor),
             Start::Square => self.square(cursor),

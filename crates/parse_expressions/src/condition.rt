@@ -21,6 +21,7 @@ type Operands = (Measured, Row);
 /// A first operand and the comparisons beside it.
 type Compared = (Measured, Comparisons);
 
+/// The keyword of a junction.
 fn word_of(junction: Junction) -> &'static [u8]
     ensures { result.now ≡ word_of junction }
 {
@@ -45,9 +46,10 @@ fn join_all(
     }
     let node = first.node();
     let all = Row::new(alloc).push(first)?.append(row)?;
-    Ok(measured::joined(junction, node, all))
+    Ok(measured::joined(alloc, junction, node, all)?)
 }
 
+/// The first operand alone, or the node of a chain of comparisons.
 #[tactic(auto, using(crate::proofs::Beside::compared_none, crate::proofs::Beside::compared_some))]
 fn compare_all(
     alloc: Global,

@@ -113,6 +113,7 @@ impl<F: Fn(Global, &mut Cursor<'_>, u32, Form) -> Result<Measured, ParseError>> 
         Ok(tree)
     }
 
+    /// `*`, `//` and `%` between factors.
     #[tactic(auto, unfolding(crate::specs::Reading::term))]
     fn term(&self, cursor: &mut Cursor<'_>) -> Result<Measured, ParseError>
         requires { Subs self.now.room (F.pre self.now.sub) (F.post self.now.sub) }
@@ -122,6 +123,7 @@ impl<F: Fn(Global, &mut Cursor<'_>, u32, Form) -> Result<Measured, ParseError>> 
         self.operations(cursor, Rank::Term, first)
     }
 
+    /// `+` and `-` between terms.
     #[tactic(auto, unfolding(crate::specs::Reading::sum))]
     fn sum(&self, cursor: &mut Cursor<'_>) -> Result<Measured, ParseError>
         requires { Subs self.now.room (F.pre self.now.sub) (F.post self.now.sub) }
@@ -131,6 +133,7 @@ impl<F: Fn(Global, &mut Cursor<'_>, u32, Form) -> Result<Measured, ParseError>> 
         self.operations(cursor, Rank::Sum, first)
     }
 
+    /// `<<` and `>>` between sums.
     #[tactic(auto, unfolding(crate::specs::Reading::shift))]
     fn shift(&self, cursor: &mut Cursor<'_>) -> Result<Measured, ParseError>
         requires { Subs self.now.room (F.pre self.now.sub) (F.post self.now.sub) }
@@ -140,6 +143,7 @@ impl<F: Fn(Global, &mut Cursor<'_>, u32, Form) -> Result<Measured, ParseError>> 
         self.operations(cursor, Rank::Shift, first)
     }
 
+    /// `&` between shifts.
     #[tactic(auto, unfolding(crate::specs::Reading::bit_and))]
     fn bit_and(&self, cursor: &mut Cursor<'_>) -> Result<Measured, ParseError>
         requires { Subs self.now.room (F.pre self.now.sub) (F.post self.now.sub) }
@@ -149,6 +153,7 @@ impl<F: Fn(Global, &mut Cursor<'_>, u32, Form) -> Result<Measured, ParseError>> 
         self.operations(cursor, Rank::BitAnd, first)
     }
 
+    /// `^` between conjunctions of bits.
     #[tactic(auto, unfolding(crate::specs::Reading::bit_xor))]
     fn bit_xor(&self, cursor: &mut Cursor<'_>) -> Result<Measured, ParseError>
         requires { Subs self.now.room (F.pre self.now.sub) (F.post self.now.sub) }
@@ -158,6 +163,7 @@ impl<F: Fn(Global, &mut Cursor<'_>, u32, Form) -> Result<Measured, ParseError>> 
         self.operations(cursor, Rank::BitXor, first)
     }
 
+    /// `|` between exclusive disjunctions of bits.
     #[tactic(auto, unfolding(crate::specs::Reading::bit_or))]
     pub fn bit_or(&self, cursor: &mut Cursor<'_>) -> Result<Measured, ParseError>
         requires { Subs self.now.room (F.pre self.now.sub) (F.post self.now.sub) }
