@@ -2,11 +2,11 @@
 use Rattle.std.proofs.Common.{◌≡◌, ℕ, zero, suc, ◌-◌, ◌<◌, List, refl, ap, arith}
 use Rattle.indent_lexer.specs.declared.token.Token.{Token}
 use Rattle.source_trees.specs.declared.expression.Expr.{Expr}
-use Rattle.parse_laws.specs.Parser.{Stopped, refuse, choose, take_by, has, ◌>>=◌}
+use Rattle.parse_laws.specs.Parser.{Stopped, refuse, choose, ◌>>=◌}
 use Rattle.parse_laws.specs.declared.cause.Cause.TheVariants.{TooDeep}
 use Rattle.parse_expressions.specs.declared.form.Form.{Form}
 use Rattle.parse_expressions.specs.Forms.{opening, begins}
-use Rattle.parse_expressions.specs.Reading.{is_dot, plain_at, named_rest, atom, dotted, at_form, read}
+use Rattle.parse_expressions.specs.Reading.{is_dot, atom, dotted, at_form, read}
 use Rattle.parse_expressions.specs.TypeReading.{type_begins, type_at, read_type}
 use Rattle.parse_expressions.specs.TargetReading.{too_deep, target_atom, target_after, target_indexed, target_trailers, pointed, read_target}
 

@@ -1,19 +1,18 @@
 -- The law of targets. What a target begins with is a target that is at most one higher than its parts, or it has a trailer
 -- behind it and is a part itself: `Fit` says so. The loop over the trailers then keeps `Fit`, and where it stops the tree
 -- is a target or the next token is refused.
-use Rattle.std.proofs.Common.{◌≡◌, ℕ, zero, suc, ◌+◌, ◌<◌, ◌≤◌, nat_le, Bool, true, false, cond, ◌&&◌, List, [], ◌∷◌, ◌++◌, length, refl, sym, ◌∙◌, ap, subst, Option, Some, None, codes, inl, inr, ◌⊎◌, append_assoc, arith}
-use Rattle.std.proofs.lemmas.List.{length-append, append-nil}
+use Rattle.std.proofs.Common.{◌≡◌, ℕ, zero, suc, ◌+◌, ◌<◌, ◌≤◌, nat_le, Bool, true, false, cond, ◌&&◌, List, [], ◌∷◌, ◌++◌, length, refl, sym, ◌∙◌, ap, subst, Option, Some, None, codes, inl, inr, append_assoc, arith}
+use Rattle.std.proofs.lemmas.List.{length-append}
 use Rattle.std.proofs.lemmas.Bool.{le-leb, leb-true}
 use Rattle.indent_lexer.specs.declared.token.Token.{Token}
 use Rattle.source_trees.specs.declared.node.Name.{Name}
 use Rattle.source_trees.specs.declared.expression.Expr.{Expr}
-use Rattle.source_trees.specs.declared.expression.Expr.TheVariants as e
 use Rattle.source_trees.specs.Heights.{highest, height_of_expr}
 use Rattle.parse_laws.specs.declared.cause.Cause.TheVariants.{Unexpected, TooDeep}
-use Rattle.parse_laws.specs.Parser.{Parser, Outcome, Parsed, Stopped, and_then, class_of, sees, has, in_table, pure, refuse, choose, within, expect, take_by, repeat, ◌>>=◌, ◌>>◌}
+use Rattle.parse_laws.specs.Parser.{Parser, Outcome, Parsed, Stopped, and_then, class_of, sees, has, in_table, pure, choose, within, take_by, repeat, ◌>>=◌}
 use Rattle.parse_laws.specs.Language.{Language, Free, Viable, Law}
-use Rattle.parse_laws.specs.Forms.{Then, Is, Picks, Opens, Closes, Ends, Made, Either, Agrees, never}
-use Rattle.parse_laws.specs.Limits.{Limited, Nothing, Joins, Carries}
+use Rattle.parse_laws.specs.Forms.{Then, Is, Picks, Made, Either, never}
+use Rattle.parse_laws.specs.Limits.{Limited, Joins, Carries}
 use Rattle.parse_laws.specs.Loops.{Turns, done, next}
 use Rattle.parse_laws.proofs.Forms.{rename_law, free_never, begins_at, wider_at}
 use Rattle.parse_laws.proofs.Lists.{FitEach}
@@ -35,12 +34,12 @@ use Rattle.parse_expressions.specs.TargetReading.{too_deep, target_atom, slice_f
 use Rattle.parse_expressions.proofs.Tokens.{op_kind}
 use Rattle.parse_expressions.proofs.Opens.{x_token, x_tree, op_token, name_spelling, opens}
 use Rattle.parse_expressions.proofs.Least.{least, viable_at, atom_at}
-use Rattle.parse_expressions.proofs.Heights.{height-Name, height-Call, height-Index, height-Slice, height-Field, height-MethodCall}
+use Rattle.parse_expressions.proofs.Heights.{height-Name, height-Call, height-Index, height-Field, height-MethodCall}
 use Rattle.parse_expressions.proofs.Lows.{positive, no_room, LowOption, optional_up}
 use Rattle.parse_expressions.proofs.Leaves.{Free_of_limit}
 use Rattle.parse_expressions.proofs.Rows.{arguments_law}
-use Rattle.parse_expressions.proofs.Atoms.{AtomFrom, From, atom_carries, arguments_open, arguments_least, atom_law, named_law, plain_of, plain_is, atom_up, atom_down, start_of_name, name_at_of}
-use Rattle.parse_expressions.proofs.Postfixes.{method_tree, field_tree, slice_tree, index_tree, FieldRest, Dotted, Sliced, IndexAt, AfterIndex, Indexed, Trailer, postfix_from, postfix_to, op_carries, op_is_no, by_trailer, trailer_own, trailer_no_open, open_wider, trailer_opens, field_low, index_low, slice_parts, trailer_parts, method_carries, slice_law, index_misses, dot_viable, square_viable, trailers_apart, trailers_shrink}
+use Rattle.parse_expressions.proofs.Atoms.{AtomFrom, atom_carries, arguments_open, arguments_least, atom_law, named_law, plain_of, plain_is, atom_up, atom_down, start_of_name, name_at_of}
+use Rattle.parse_expressions.proofs.Postfixes.{method_tree, field_tree, slice_tree, index_tree, FieldRest, Dotted, Sliced, IndexAt, AfterIndex, Indexed, Trailer, postfix_from, postfix_to, op_carries, op_is_no, by_trailer, trailer_own, trailer_no_open, open_wider, trailer_opens, slice_parts, trailer_parts, method_carries, slice_law, index_misses, dot_viable, square_viable, trailers_apart, trailers_shrink}
 use Rattle.parse_expressions.proofs.Wholes.{read_law}
 use Rattle.parse_expressions.proofs.Pointed.{pointed_Name, pointed_Index, pointed_Slice, pointed_Field, pointed_MethodCall, Bare, bare_or}
 

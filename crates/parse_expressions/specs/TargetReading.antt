@@ -1,6 +1,6 @@
 -- The parser of targets, as functions on lists of tokens. A target is read as a postfix form. What stands in it and is no
 -- target itself has something behind it, and so is at most as high as a part.
-use Rattle.std.specs.Prelude.{ℕ, zero, suc, Bool, cond, ◌&&◌, nat_le, List, length, Option, Some, None}
+use Rattle.std.specs.Prelude.{ℕ, zero, suc, Bool, cond, ◌&&◌, nat_le, length, Option, Some, None}
 use Rattle.indent_lexer.specs.declared.token.Token.{Token}
 use Rattle.source_trees.specs.declared.expression.Expr.{Expr}
 use Rattle.source_trees.specs.Heights.{height_of_expr, highest}

@@ -1,5 +1,5 @@
 -- Which expressions an assignment may write to (the Python reference, section 7.2): a name, an index and a field.
-use Rattle.std.specs.Prelude.{◌≡◌, Bool, true, List, Option, Some, None}
+use Rattle.std.specs.Prelude.{◌≡◌, Bool, true, Option, Some, None}
 use Rattle.indent_lexer.specs.declared.token.Token.{Token}
 use Rattle.source_trees.specs.declared.expression.Comparison.{Comparison}
 use Rattle.source_trees.specs.declared.expression.Expr.{Expr, Expr-F, out-Expr}

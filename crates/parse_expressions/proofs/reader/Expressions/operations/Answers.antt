@@ -1,4 +1,4 @@
-use Rattle.std.proofs.Common.{rules, arith, ◌∷◌, ◌++◌, []}
+use Rattle.std.proofs.Common.{rules, arith}
 use Rattle.std.proofs.lemmas.Grind.{common_steps}
 use Rattle.parse_laws.specs.Parser.{repeat, has, turn}
 use Rattle.grammar_rules.specs.Levels.{operators}

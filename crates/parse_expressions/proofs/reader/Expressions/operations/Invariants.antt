@@ -1,4 +1,4 @@
-use Rattle.std.proofs.Common.{◌≡◌, ◌-◌, ◌∷◌, ◌++◌, []}
+use Rattle.std.proofs.Common.{◌≡◌, ◌-◌}
 use Rattle.parse_laws.specs.Parser.{repeat, has, turn}
 use Rattle.grammar_rules.specs.Levels.{operators}
 use Rattle.grammar_rules.specs.Words.{look_up}

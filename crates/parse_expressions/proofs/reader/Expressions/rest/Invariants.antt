@@ -1,4 +1,4 @@
-use Rattle.std.proofs.Common.{◌≡◌, ◌-◌, ◌∷◌, ◌++◌, [], false}
+use Rattle.std.proofs.Common.{◌≡◌, ◌-◌, ◌∷◌, ◌++◌, []}
 use Rattle.parse_laws.specs.Parser.{repeat, row_turn}
 use Rattle.parse_laws.specs.Loops.{rest_of, row_test, starts_in}
 use Rattle.grammar_rules.specs.Words.{is_comma}

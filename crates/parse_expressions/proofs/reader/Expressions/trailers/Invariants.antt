@@ -1,4 +1,4 @@
-use Rattle.std.proofs.Common.{◌≡◌, ◌-◌, ◌∷◌, ◌++◌, []}
+use Rattle.std.proofs.Common.{◌≡◌, ◌-◌}
 use Rattle.parse_laws.specs.Parser.{repeat}
 use Rattle.parse_expressions.specs.Reading.{read, trailers, trailer, is_trailer}
 use Rattle.parse_expressions.proofs.reader.Expressions.trailers.Given as goal
