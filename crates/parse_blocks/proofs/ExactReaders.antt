@@ -1,9 +1,8 @@
 -- The readers that the code calls are exact.
-use Rattle.std.proofs.Common.{◌≡◌, ℕ, true, Bool, List, refl, sym, ◌∙◌, ap, subst, Option}
+use Rattle.std.proofs.Common.{◌≡◌, ℕ, List, refl, sym, ◌∙◌, ap}
 use Rattle.indent_lexer.specs.declared.token.Token.{Token}
 use Rattle.source_trees.specs.declared.expression.Comparison.{Comparison}
 use Rattle.source_trees.specs.declared.expression.Expr.{Expr, Expr-F, out-Expr}
-use Rattle.source_trees.specs.declared.statement.Target.{Target}
 use Rattle.parse_laws.specs.Language.{Law}
 use Rattle.parse_laws.specs.Limits.{Limited}
 use Rattle.parse_laws.specs.Parser.{in_table}

@@ -1,5 +1,5 @@
 -- What reads the statements that are lower than a limit reads those that are lower than the next one.
-use Rattle.std.proofs.Common.{ℕ, ◌-◌, ◌≤◌, List, Result, arith}
+use Rattle.std.proofs.Common.{ℕ, ◌-◌, List, Result, arith}
 use Rattle.std.specs.declared.alloc.Global.{Global}
 use Rattle.indent_lexer.specs.declared.token.Token.{Token}
 use Rattle.source_trees.specs.declared.statement.Stmt.{Stmt}

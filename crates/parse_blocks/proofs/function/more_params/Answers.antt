@@ -1,6 +1,6 @@
-use Rattle.std.proofs.Common.{rules, arith, ◌∷◌, ◌++◌, ◌&&◌, [], true, false, not}
+use Rattle.std.proofs.Common.{rules, arith, ◌∷◌, ◌++◌, []}
 use Rattle.std.proofs.lemmas.Grind.{common_steps}
-use Rattle.parse_laws.specs.Parser.{repeat, row_turn, and_then, pure, expect, has}
+use Rattle.parse_laws.specs.Parser.{repeat, row_turn}
 use Rattle.grammar_rules.specs.Words.{is_comma}
 use Rattle.parse_laws.specs.Loops.{row_test, starts_in, rest_of}
 use Rattle.parse_statements.specs.Code.{readers}

@@ -1,5 +1,5 @@
-use Rattle.std.proofs.Common.{◌≡◌, ◌-◌, ◌∷◌, ◌++◌, ◌&&◌, [], true, false, not, length}
-use Rattle.parse_laws.specs.Parser.{repeat, row_turn, and_then, pure, expect, has}
+use Rattle.std.proofs.Common.{◌≡◌, ◌-◌, ◌∷◌, ◌++◌, []}
+use Rattle.parse_laws.specs.Parser.{repeat, row_turn}
 use Rattle.grammar_rules.specs.Words.{is_comma}
 use Rattle.parse_laws.specs.Loops.{row_test, starts_in, rest_of}
 use Rattle.parse_statements.specs.Code.{readers}

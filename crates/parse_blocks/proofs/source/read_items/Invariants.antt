@@ -1,8 +1,7 @@
-use Rattle.std.proofs.Common.{◌≡◌, ◌-◌, ◌∷◌, ◌++◌, ◌&&◌, [], true, false, not, length}
-use Rattle.parse_laws.specs.Parser.{repeat, row_turn, and_then, pure, expect, has}
+use Rattle.std.proofs.Common.{◌≡◌, ◌-◌, ◌++◌}
+use Rattle.parse_laws.specs.Parser.{repeat, and_then, pure}
 use Rattle.parse_statements.specs.Code.{readers}
 use Rattle.grammar_rules.specs.Modules.{most_height}
-use Rattle.parse_blocks.specs.Gather.{gather}
 use Rattle.parse_blocks.specs.Sources.{tops, top, starts_top}
 use Rattle.parse_blocks.proofs.source.read_items.Given as goal
 

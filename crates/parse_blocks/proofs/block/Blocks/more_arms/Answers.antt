@@ -1,6 +1,6 @@
-use Rattle.std.proofs.Common.{rules, arith, ◌-◌, ◌∷◌, ◌++◌, ◌&&◌, [], true, false, not}
+use Rattle.std.proofs.Common.{rules, arith, ◌-◌, ◌∷◌, ◌++◌, []}
 use Rattle.std.proofs.lemmas.Grind.{common_steps}
-use Rattle.parse_laws.specs.Parser.{repeat, row_turn, and_then, pure, expect, has}
+use Rattle.parse_laws.specs.Parser.{repeat, and_then, pure}
 use Rattle.parse_statements.specs.Code.{readers}
 use Rattle.parse_statements.specs.Many.{many}
 use Rattle.parse_blocks.specs.Blocks.{is_elif, elif_arm, statement}

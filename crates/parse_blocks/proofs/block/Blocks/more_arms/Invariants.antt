@@ -1,5 +1,5 @@
-use Rattle.std.proofs.Common.{◌≡◌, ◌-◌, ◌∷◌, ◌++◌, ◌&&◌, [], true, false, not, length}
-use Rattle.parse_laws.specs.Parser.{repeat, row_turn, and_then, pure, expect, has}
+use Rattle.std.proofs.Common.{◌≡◌, ◌-◌, ◌∷◌, ◌++◌, []}
+use Rattle.parse_laws.specs.Parser.{repeat, and_then, pure}
 use Rattle.parse_statements.specs.Code.{readers}
 use Rattle.parse_statements.specs.Many.{many}
 use Rattle.parse_blocks.specs.Blocks.{is_elif, elif_arm, statement}

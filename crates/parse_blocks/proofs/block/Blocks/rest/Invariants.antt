@@ -1,5 +1,5 @@
-use Rattle.std.proofs.Common.{◌≡◌, ◌-◌, ◌∷◌, ◌++◌, ◌&&◌, [], true, false, not, length}
-use Rattle.parse_laws.specs.Parser.{repeat, row_turn, and_then, pure, expect, has}
+use Rattle.std.proofs.Common.{◌≡◌, ◌-◌, ◌++◌}
+use Rattle.parse_laws.specs.Parser.{repeat, and_then, pure}
 use Rattle.parse_statements.specs.Code.{readers}
 use Rattle.parse_blocks.specs.Gather.{gather}
 use Rattle.parse_blocks.specs.Blocks.{starts_stmt, statement}
