@@ -1,6 +1,6 @@
 -- What a list derives has no numbers; so a numbered tree that is the same but for the numbers, and as high, is the tree of
--- the list. And the tokens of a text hold its end.
-use Rattle.std.proofs.Common.{◌≡◌, ℕ, ◌≤◌, List, [], sym, ◌∙◌, subst}
+-- the list. And the tokens of a text hold its end, also where more follows.
+use Rattle.std.proofs.Common.{◌≡◌, ℕ, ◌≤◌, List, [], ◌∷◌, ◌++◌, sym, ◌∙◌, subst, append_assoc}
 use Rattle.indent_lexer.specs.declared.token.Token.{Token}
 use Rattle.indent_lexer.specs.Tokens.{Tokens}
 use Rattle.source_trees.specs.declared.item.Module.{Module}
@@ -20,3 +20,9 @@ numbered_is_tree ts m w low same numbered high =
 
 pub lexed_hold_end : (b : List ℕ) (ts : List Token) → Tokens b ts → HoldsEnd ts
 lexed_hold_end b ts k = let n = tokens_text b ts k in (n.0, [], n.1, n.2, n.3)
+
+pub more_hold_end : (b : List ℕ) (ts more : List Token) → Tokens b ts → HoldsEnd (ts ++ more)
+more_hold_end b ts more k =
+    let n = tokens_text b ts k in
+    let P : List Token → Type 0 = λ z. z ++ more ≡ n.0 ++ n.1 ∷ more in
+    (n.0, more, n.1, subst P (sym n.2) (append_assoc n.0 (n.1 ∷ []) more), n.3)

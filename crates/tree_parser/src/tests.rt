@@ -1,3 +1,4 @@
+mod edited;
 mod limits;
 mod once;
 mod print;

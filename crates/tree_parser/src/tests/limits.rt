@@ -4,6 +4,7 @@ mod counts;
 mod nested;
 mod nested_blocks;
 mod parts;
+mod room;
 
 use super::{Wrong, parsed, places, shown};
 use std::alloc::{AllocError, Global};
@@ -57,7 +58,12 @@ fn nest_text(alloc: Global, nest: Nest<'_>, times: u32) -> Result<String, AllocE
 }
 
 /// So many times make a tree of this height.
-fn has_height(wrong: &mut Wrong, nest: Nest<'_>, times: u32, height: u32) -> Result<(), AllocError> {
+fn has_height(
+    wrong: &mut Wrong,
+    nest: Nest<'_>,
+    times: u32,
+    height: u32,
+) -> Result<(), AllocError> {
     let text = nest_text(wrong.alloc, nest, times)?;
     let want = format!(in wrong.alloc; "height {height}")?;
     judge(wrong, nest.open, text.as_str(), want.as_str())

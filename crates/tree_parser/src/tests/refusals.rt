@@ -1,6 +1,7 @@
 //! Sources that are refused, each with its first bad token, by the forms of the grammar.
 
 mod blocks;
+mod edited;
 mod expressions;
 mod items;
 mod pipes;

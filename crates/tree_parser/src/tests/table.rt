@@ -13,6 +13,7 @@ use std::process::Abort;
 #[derive(Drop)]
 struct Row {
     alloc: Global,
+    levels: u32,
     kind: Vec<u8>,
     kind_ends: bool,
     source: Vec<u8>,
@@ -22,24 +23,39 @@ struct Row {
     marked: Option<(u32, u32)>,
 }
 
+fn indent(source: &mut Vec<u8>, blanks: u32) -> Result<(), AllocError> {
+    'blanks: for _ in 0..blanks {
+        source.push(b' ')?;
+    }
+    Ok(())
+}
+
 impl Row {
-    fn new(alloc: Global) -> Row {
-        Row {
+    /// The source stands under so many `if`, each one blank further in.
+    fn new(alloc: Global, levels: u32) -> Result<Row, AllocError> {
+        let mut row = Row {
             alloc,
+            levels,
             kind: Vec::new(alloc),
             kind_ends: false,
             source: Vec::new(alloc),
-            line: 1,
-            column: 1,
+            line: levels.saturating_add(1),
+            column: levels.saturating_add(1),
             marked: None,
+        };
+        'levels: for level in 0..levels {
+            indent(&mut row.source, level)?;
+            row.source.extend_from_slice(b"if x:\n")?;
         }
+        indent(&mut row.source, levels)?;
+        Ok(row)
     }
 
     fn end_line(&mut self) -> Result<(), AllocError> {
         self.line = self.line.saturating_add(1);
-        self.column = 1;
+        self.column = self.levels.saturating_add(1);
         self.source.push(b'\n')?;
-        Ok(())
+        indent(&mut self.source, self.levels)
     }
 
     fn push_source(&mut self, byte: u8) -> Result<(), AllocError> {
@@ -96,12 +112,22 @@ impl Row {
 
 /// Each row of the table has the answer that it wants.
 pub(super) fn check(rt: &impl Abort, alloc: Global, rows: &str) -> Result<(), AllocError> {
+    check_in(rt, alloc, 0, rows)
+}
+
+/// Each row of the table has the answer that it wants where its source stands under so many `if`.
+pub(super) fn check_in(
+    rt: &impl Abort,
+    alloc: Global,
+    levels: u32,
+    rows: &str,
+) -> Result<(), AllocError> {
     let mut wrong = Wrong::new(alloc);
-    let mut row = Row::new(alloc);
+    let mut row = Row::new(alloc, levels)?;
     'bytes: for byte in rows.as_bytes() {
         if *byte == b'\n' {
             row.judge(&mut wrong)?;
-            row = Row::new(alloc);
+            row = Row::new(alloc, levels)?;
         } else {
             row.push(*byte)?;
         }

@@ -8,9 +8,9 @@ mod conditions;
 mod operators;
 mod statements;
 
+use super::Wrong;
 use super::round::{told_round, tree};
 use super::shape::Shape;
-use super::Wrong;
 use std::alloc::{AllocError, Global};
 use std::process::Abort;
 

@@ -6,7 +6,13 @@ use std::alloc::{AllocError, Global};
 use std::test::Fail;
 
 /// So many items, at least one, with commas between.
-fn row_text(alloc: Global, before: &str, item: &str, times: u32, after: &str) -> Result<String, AllocError> {
+fn row_text(
+    alloc: Global,
+    before: &str,
+    item: &str,
+    times: u32,
+    after: &str,
+) -> Result<String, AllocError> {
     let mut text = String::new(alloc);
     text.push_str(before)?;
     text.push_str(item)?;
@@ -19,20 +25,39 @@ fn row_text(alloc: Global, before: &str, item: &str, times: u32, after: &str) ->
 }
 
 /// So many items make a tree.
-fn fits(wrong: &mut Wrong, before: &str, item: &str, times: u32, after: &str) -> Result<(), AllocError> {
+fn fits(
+    wrong: &mut Wrong,
+    before: &str,
+    item: &str,
+    times: u32,
+    after: &str,
+) -> Result<(), AllocError> {
     let text = row_text(wrong.alloc, before, item, times, after)?;
     wrong.row(text.as_str(), "ok")
 }
 
 /// So many items are refused at this column.
-fn refused(wrong: &mut Wrong, before: &str, item: &str, times: u32, after: &str, column: u32) -> Result<(), AllocError> {
+fn refused(
+    wrong: &mut Wrong,
+    before: &str,
+    item: &str,
+    times: u32,
+    after: &str,
+    column: u32,
+) -> Result<(), AllocError> {
     let text = row_text(wrong.alloc, before, item, times, after)?;
     let want = places(wrong.alloc, "P1", 1, column)?;
     wrong.row(text.as_str(), want.as_str())
 }
 
 /// 255 items make a tree, and 256 are refused at this column.
-fn most(wrong: &mut Wrong, before: &str, item: &str, after: &str, column: u32) -> Result<(), AllocError> {
+fn most(
+    wrong: &mut Wrong,
+    before: &str,
+    item: &str,
+    after: &str,
+    column: u32,
+) -> Result<(), AllocError> {
     fits(wrong, before, item, 255, after)?;
     refused(wrong, before, item, 256, after, column)
 }
@@ -118,7 +143,12 @@ fn class_with(after: &'static str) -> Nest<'static> {
 fn fields(rt: HostRuntime) -> Result<(), Fail> {
     let mut wrong = Wrong::new(rt.alloc());
     has_height(&mut wrong, class_with(""), 255, 3)?;
-    has_height(&mut wrong, class_with(" pass\n 'a'\n def f(): pass\n"), 255, 3)?;
+    has_height(
+        &mut wrong,
+        class_with(" pass\n 'a'\n def f(): pass\n"),
+        255,
+        3,
+    )?;
     let text = nest_text(rt.alloc(), class_with(""), 256)?;
     let want = places(rt.alloc(), "P1", 257, 2)?;
     judge(&mut wrong, "fields", text.as_str(), want.as_str())?;

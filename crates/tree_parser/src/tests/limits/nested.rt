@@ -6,9 +6,20 @@ use std::alloc::AllocError;
 use std::test::Fail;
 
 /// A row: the parts of a nest, how often it stands in itself for a height of 100, and the column at which once more is too deep.
-fn row(wrong: &mut Wrong, parts: [&'static str; 5], times: u32, column: u32) -> Result<(), AllocError> {
+fn row(
+    wrong: &mut Wrong,
+    parts: [&'static str; 5],
+    times: u32,
+    column: u32,
+) -> Result<(), AllocError> {
     let [before, open, inside, close, after] = parts;
-    let nest = Nest { before, open, inside, close, after };
+    let nest = Nest {
+        before,
+        open,
+        inside,
+        close,
+        after,
+    };
     limit(wrong, nest, times, column)
 }
 
@@ -89,7 +100,12 @@ fn lists_and_calls(rt: HostRuntime) -> Result<(), Fail> {
 fn lists_and_calls_more(rt: HostRuntime) -> Result<(), Fail> {
     let mut wrong = Wrong::new(rt.alloc());
     row(&mut wrong, ["", "[x for x in ", "y", "]", "\n"], 98, 1178)?;
-    row(&mut wrong, ["", "[x for x in y if ", "z", "]", "\n"], 98, 1668)?;
+    row(
+        &mut wrong,
+        ["", "[x for x in y if ", "z", "]", "\n"],
+        98,
+        1668,
+    )?;
     row(&mut wrong, ["x[", "(", "0", ")", "] = 1\n"], 97, 100)?;
     wrong.end(&rt);
     Ok(())
@@ -100,11 +116,36 @@ fn types(rt: HostRuntime) -> Result<(), Fail> {
     let mut wrong = Wrong::new(rt.alloc());
     row(&mut wrong, ["x: ", "list[", "int", "]", "\n"], 98, 498)?;
     row(&mut wrong, ["x: ", "tuple[", "int", "]", "\n"], 98, 597)?;
-    row(&mut wrong, ["x: ", "tuple[int, ", "A", "]", " = 1\n"], 98, 1087)?;
-    row(&mut wrong, ["def f() -> ", "List[", "int", "]", ": pass\n"], 98, 506)?;
-    row(&mut wrong, ["def f(x: ", "list[", "int", "]", "): pass\n"], 97, 499)?;
-    row(&mut wrong, ["def f(x=", "(", "1", ")", "): pass\n"], 97, 106)?;
-    row(&mut wrong, ["def f(x: int = ", "-", "1", "", "): pass\n"], 97, 113)?;
+    row(
+        &mut wrong,
+        ["x: ", "tuple[int, ", "A", "]", " = 1\n"],
+        98,
+        1087,
+    )?;
+    row(
+        &mut wrong,
+        ["def f() -> ", "List[", "int", "]", ": pass\n"],
+        98,
+        506,
+    )?;
+    row(
+        &mut wrong,
+        ["def f(x: ", "list[", "int", "]", "): pass\n"],
+        97,
+        499,
+    )?;
+    row(
+        &mut wrong,
+        ["def f(x=", "(", "1", ")", "): pass\n"],
+        97,
+        106,
+    )?;
+    row(
+        &mut wrong,
+        ["def f(x: int = ", "-", "1", "", "): pass\n"],
+        97,
+        113,
+    )?;
     wrong.end(&rt);
     Ok(())
 }
@@ -114,7 +155,12 @@ fn headers(rt: HostRuntime) -> Result<(), Fail> {
     let mut wrong = Wrong::new(rt.alloc());
     row(&mut wrong, ["if ", "(", "x", ")", ": pass\n"], 98, 102)?;
     row(&mut wrong, ["while ", "(", "x", ")", ": pass\n"], 98, 105)?;
-    row(&mut wrong, ["for x in ", "(", "y", ")", ": pass\n"], 98, 108)?;
+    row(
+        &mut wrong,
+        ["for x in ", "(", "y", ")", ": pass\n"],
+        98,
+        108,
+    )?;
     row(&mut wrong, ["x |> f(", "(", "1", ")", ")\n"], 97, 105)?;
     row(&mut wrong, ["x |> print(", "(", "1", ")", ")\n"], 97, 109)?;
     row(&mut wrong, ["", "(", "x", ")", " |> f\n"], 98, 99)?;

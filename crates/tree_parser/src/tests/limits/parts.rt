@@ -141,17 +141,57 @@ fn flat_forms(rt: HostRuntime) -> Result<(), Fail> {
         after: "\n",
     };
     has_height(&mut wrong, words, 300, 3)?;
-    has_height(&mut wrong, Nest { close: " or x", ..words }, 300, 3)?;
-    has_height(&mut wrong, Nest { close: " < x", ..words }, 300, 3)?;
-    has_height(&mut wrong, Nest { close: "; x", ..words }, 300, 2)?;
-    has_height(&mut wrong, Nest { close: "\nx", ..words }, 300, 2)?;
+    has_height(
+        &mut wrong,
+        Nest {
+            close: " or x",
+            ..words
+        },
+        300,
+        3,
+    )?;
+    has_height(
+        &mut wrong,
+        Nest {
+            close: " < x",
+            ..words
+        },
+        300,
+        3,
+    )?;
+    has_height(
+        &mut wrong,
+        Nest {
+            close: "; x",
+            ..words
+        },
+        300,
+        2,
+    )?;
+    has_height(
+        &mut wrong,
+        Nest {
+            close: "\nx",
+            ..words
+        },
+        300,
+        2,
+    )?;
     let texts = Nest {
         before: "'a'",
         close: " 'a'",
         ..words
     };
     has_height(&mut wrong, texts, 300, 2)?;
-    let mut arms = nest_text(rt.alloc(), Nest { before: "if x: pass", close: "", ..words }, 0)?;
+    let mut arms = nest_text(
+        rt.alloc(),
+        Nest {
+            before: "if x: pass",
+            close: "",
+            ..words
+        },
+        0,
+    )?;
     repeat(&mut arms, "elif x: pass\n", 300)?;
     judge(&mut wrong, "elif", arms.as_str(), "height 2")?;
     arms.push_str("elif: pass\n")?;
