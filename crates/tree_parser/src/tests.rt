@@ -1,6 +1,7 @@
 mod edited;
 mod limits;
 mod once;
+mod prelude_text;
 mod print;
 mod refusals;
 mod round;

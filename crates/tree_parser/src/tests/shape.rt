@@ -1,7 +1,8 @@
 //! Trees as nested lists: each node is a word and its parts, in round brackets, a name or a value is written as it is.
 //!
 //! In the short form brackets, the ways to write a tuple, and `elif` in place of an `if` within `else` do not show, so that
-//! it is the tree that CPython's `ast` has. The whole form shows them, and the numbers of the nodes.
+//! it is the tree that CPython's `ast` has. The whole form shows them, and the numbers of the nodes, and their places where
+//! those are asked for.
 
 mod expression;
 mod item;
@@ -16,13 +17,15 @@ use std::alloc::{AllocError, Global};
 pub(super) struct Shape {
     out: Out,
     whole: bool,
+    placed: bool,
 }
 
 impl Shape {
-    pub(super) fn new(alloc: Global, whole: bool) -> Shape {
+    fn new(alloc: Global, whole: bool, placed: bool) -> Shape {
         Shape {
             out: Vec::new(alloc),
             whole,
+            placed,
         }
     }
 
@@ -41,13 +44,22 @@ impl Shape {
         self.out.extend_from_slice(spelling)
     }
 
-    /// The number of a node, in the whole form.
+    /// The number of a node, in the whole form, and its place where places are shown.
     fn number(&mut self, node: Node) -> Result<(), AllocError> {
         if !self.whole {
             return Ok(());
         }
         word(&mut self.out, "#")?;
-        count(&mut self.out, u64::from(node.id.0))
+        count(&mut self.out, u64::from(node.id.0))?;
+        if self.placed {
+            word(&mut self.out, "@")?;
+            count(&mut self.out, u64::from(node.at.start))?;
+            word(&mut self.out, ":")?;
+            count(&mut self.out, u64::from(node.at.line))?;
+            word(&mut self.out, ":")?;
+            count(&mut self.out, u64::from(node.at.column))?;
+        }
+        Ok(())
     }
 
     fn open(&mut self, text: &str, node: Node) -> Result<(), AllocError> {

@@ -65,16 +65,28 @@ impl Shape {
         }
     }
 
-    /// The shape of a tree, in the whole form or in the short one.
+    fn module(&mut self, module: &Module) -> Result<(), AllocError> {
+        'items: for each in module.items.as_slice() {
+            self.item(each)?;
+        }
+        Ok(())
+    }
+
+    /// The shape of a tree, in the whole form or in the short one, without places.
     pub(in super::super) fn of(
         alloc: Global,
         module: &Module,
         whole: bool,
     ) -> Result<Shape, AllocError> {
-        let mut shape = Shape::new(alloc, whole);
-        'items: for each in module.items.as_slice() {
-            shape.item(each)?;
-        }
+        let mut shape = Shape::new(alloc, whole, false);
+        shape.module(module)?;
+        Ok(shape)
+    }
+
+    /// The whole shape of a tree, with places.
+    pub(in super::super) fn placed(alloc: Global, module: &Module) -> Result<Shape, AllocError> {
+        let mut shape = Shape::new(alloc, true, true);
+        shape.module(module)?;
         Ok(shape)
     }
 }
