@@ -103,7 +103,7 @@ impl Row {
         }
         let source = std::str::from_utf8(self.source.as_slice()).unwrap_or("?");
         wrong.row(source, want.as_str())?;
-        if self.marked.is_none() {
+        if self.marked.is_none() && self.levels == 0 {
             wrong.add(told_round(self.alloc, source)?.as_str())?;
         }
         Ok(())

@@ -17,6 +17,9 @@ P2 $[(x, y), (z,)]
 P2 $[x for x in y or z if w or v]
 P2 $[x][0] = y
 P2 $for x in y:⏎    if x: break⏎    else: continue
+";
+
+const HEIGHT_1_B: &str = "\
 P2 $for x, y, in z: w
 P2 $if x:⏎    if y:⏎        z⏎else:⏎    w
 P2 $while x < y and not z:⏎    x += 1
@@ -29,6 +32,9 @@ P2 $x = [y, z]
 P2 $x = y, z
 P2 $x == y or not z
 P2 $x.y
+";
+
+const HEIGHT_1_C: &str = "\
 P2 $x.y.z
 P2 $x: Tuple[list[int], tuple[bool, None]] = (1, 2)
 P2 $x: import A
@@ -41,6 +47,9 @@ P1 $] f(x, y)
 P1 $] if x: y
 P1 $] x[y].z, w = -1, [2]
 P3 $def f() -> int: return 1
+";
+
+const HEIGHT_1_D: &str = "\
 P3 print($import (x))
 ok pass; break; continue
 ";
@@ -58,6 +67,9 @@ P2 [$x x + 1 for x in y]
 P2 [$x]
 P2 f$(x)
 P2 if x:⏎    $y⏎elif z:⏎    w⏎else:⏎    v
+";
+
+const HEIGHT_2_B: &str = "\
 P2 x $+ 1; f(x); -y
 P2 x $+ print(x, sep='a')
 P2 x $+ x or y
@@ -70,6 +82,9 @@ P2 x $in y in z
 P2 x $not in y
 P2 x $or (y or z)
 P2 x $| y == z & w
+";
+
+const HEIGHT_2_C: &str = "\
 P2 x *= y $+ 1
 P2 x = [$y, z]
 P2 x$, y
@@ -82,6 +97,9 @@ P1 print $not True
 P1 x $1 < y
 P1 x: int = 1 $y if z else w
 P3 $class A:⏎    x: int
+";
+
+const HEIGHT_2_D: &str = "\
 P3 $import 1 .x
 ok ''
 ok pass
@@ -107,6 +125,9 @@ P2 if x:⏎    if y:⏎        $z⏎else:⏎    w
 P2 not f$()
 P2 not x $< y <= z
 P2 x ** $-y
+";
+
+const HEIGHT_3_B: &str = "\
 P2 x ** $-y * z
 P2 x - y $- z
 P2 x << y $+ z
@@ -119,6 +140,9 @@ P2 x.y$, z, = w
 P2 x.y$.z = w
 P2 x: list[tuple$[int, list[A]]] = [[y]]
 P2 x[:$-1]
+";
+
+const HEIGHT_3_C: &str = "\
 P2 yield -x$, y
 P1 1 $x *= y + 1
 P1 for $... x, y, in z: w
@@ -131,6 +155,9 @@ ok fnot (x)
 ok for i, c in enumerate('ab'): print(i, c)
 ok for x in y:⏎    if x: break⏎    else: continue
 ok if x: # a⏎    # b⏎    y⏎⏎    z⏎
+";
+
+const HEIGHT_3_D: &str = "\
 ok if x: y
 ok print((x))
 ok print(x, y, sep='a', end='b')
@@ -153,6 +180,9 @@ P1 while x:⏎    $) while y:⏎        break⏎    continue
 P1 x - $and not y
 P1 x << y $x + z
 P1 x [x$, y,]
+";
+
+const HEIGHT_4_B: &str = "\
 P1 x$... : bool
 ok None
 ok [x + 1 for x in y]
@@ -165,6 +195,9 @@ ok x < y <= z
 ok x.y = z
 ok x[0], y = z
 ok x[y]
+";
+
+const HEIGHT_4_C: &str = "\
 ok yield -x, y
 ";
 
@@ -181,6 +214,9 @@ P1 x - $, y - z
 ok - ~-1
 ok -x ** x + y
 ok 2 ** 3 ** 4 ** 5
+";
+
+const HEIGHT_5_B: &str = "\
 ok [(x, y), (z,)]
 ok f(x, y)
 ok not x if y else z
@@ -205,6 +241,9 @@ ok (x).y = z
 ok [x for x in y if z]
 ok [x, y,]
 ok if x: # a⏎    # b⏎    y⏎⏎    z⏎
+";
+
+const HEIGHT_6_B: &str = "\
 ok if x: y⏎elsex : z
 ok not (x and y)
 ok print((x, y))
@@ -220,8 +259,44 @@ fn height_1(rt: HostRuntime) -> Result<(), Fail> {
 }
 
 #[test]
+fn height_1_b(rt: HostRuntime) -> Result<(), Fail> {
+    check_in(&rt, rt.alloc(), 99, HEIGHT_1_B)?;
+    Ok(())
+}
+
+#[test]
+fn height_1_c(rt: HostRuntime) -> Result<(), Fail> {
+    check_in(&rt, rt.alloc(), 99, HEIGHT_1_C)?;
+    Ok(())
+}
+
+#[test]
+fn height_1_d(rt: HostRuntime) -> Result<(), Fail> {
+    check_in(&rt, rt.alloc(), 99, HEIGHT_1_D)?;
+    Ok(())
+}
+
+#[test]
 fn height_2(rt: HostRuntime) -> Result<(), Fail> {
     check_in(&rt, rt.alloc(), 98, HEIGHT_2)?;
+    Ok(())
+}
+
+#[test]
+fn height_2_b(rt: HostRuntime) -> Result<(), Fail> {
+    check_in(&rt, rt.alloc(), 98, HEIGHT_2_B)?;
+    Ok(())
+}
+
+#[test]
+fn height_2_c(rt: HostRuntime) -> Result<(), Fail> {
+    check_in(&rt, rt.alloc(), 98, HEIGHT_2_C)?;
+    Ok(())
+}
+
+#[test]
+fn height_2_d(rt: HostRuntime) -> Result<(), Fail> {
+    check_in(&rt, rt.alloc(), 98, HEIGHT_2_D)?;
     Ok(())
 }
 
@@ -232,8 +307,38 @@ fn height_3(rt: HostRuntime) -> Result<(), Fail> {
 }
 
 #[test]
+fn height_3_b(rt: HostRuntime) -> Result<(), Fail> {
+    check_in(&rt, rt.alloc(), 97, HEIGHT_3_B)?;
+    Ok(())
+}
+
+#[test]
+fn height_3_c(rt: HostRuntime) -> Result<(), Fail> {
+    check_in(&rt, rt.alloc(), 97, HEIGHT_3_C)?;
+    Ok(())
+}
+
+#[test]
+fn height_3_d(rt: HostRuntime) -> Result<(), Fail> {
+    check_in(&rt, rt.alloc(), 97, HEIGHT_3_D)?;
+    Ok(())
+}
+
+#[test]
 fn height_4(rt: HostRuntime) -> Result<(), Fail> {
     check_in(&rt, rt.alloc(), 96, HEIGHT_4)?;
+    Ok(())
+}
+
+#[test]
+fn height_4_b(rt: HostRuntime) -> Result<(), Fail> {
+    check_in(&rt, rt.alloc(), 96, HEIGHT_4_B)?;
+    Ok(())
+}
+
+#[test]
+fn height_4_c(rt: HostRuntime) -> Result<(), Fail> {
+    check_in(&rt, rt.alloc(), 96, HEIGHT_4_C)?;
     Ok(())
 }
 
@@ -244,7 +349,19 @@ fn height_5(rt: HostRuntime) -> Result<(), Fail> {
 }
 
 #[test]
+fn height_5_b(rt: HostRuntime) -> Result<(), Fail> {
+    check_in(&rt, rt.alloc(), 95, HEIGHT_5_B)?;
+    Ok(())
+}
+
+#[test]
 fn height_6(rt: HostRuntime) -> Result<(), Fail> {
     check_in(&rt, rt.alloc(), 94, HEIGHT_6)?;
+    Ok(())
+}
+
+#[test]
+fn height_6_b(rt: HostRuntime) -> Result<(), Fail> {
+    check_in(&rt, rt.alloc(), 94, HEIGHT_6_B)?;
     Ok(())
 }
