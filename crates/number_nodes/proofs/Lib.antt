@@ -1,5 +1,6 @@
 pub mod Taking
 pub mod Reaching
+pub mod Parts
 pub mod BareForms
 pub mod AnnotationForms
 pub mod ExprForms

@@ -5,6 +5,7 @@ ghost use Rattle.source_trees.specs.Nodes.{IsNumbered};
 ghost use Rattle.number_nodes.specs.Numbers.{NumbersClass, NumbersFunction, NumbersItem, NumbersItems, NumbersMember, NumbersMembers, NumbersParam, NumbersParams};
 
 use crate::annotation::{number_annotation, number_optional_annotation};
+use crate::both::both;
 use crate::expression::number_optional_expr;
 use crate::node::{number_name, number_node};
 use crate::statement::{number_stmt, number_stmts};
@@ -23,9 +24,11 @@ fn number_param(alloc: Global, next: &mut u64, param: Param) -> Result<Param, Me
         annotation,
         default,
     } = param;
-    let node = number_node(next, node)?;
-    let annotation = number_optional_annotation(alloc, next, annotation)?;
-    let default = number_optional_expr(alloc, next, default)?;
+    let node = number_node(next, node);
+    let annotation = number_optional_annotation(alloc, next, annotation);
+    let default = number_optional_expr(alloc, next, default);
+    let parts = both(annotation, default);
+    let (node, (annotation, default)) = both(node, parts)?;
     Ok(Param {
         node,
         name,

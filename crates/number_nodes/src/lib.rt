@@ -2,6 +2,7 @@
 #![tactic(auto)]
 
 mod annotation;
+mod both;
 mod expression;
 mod item;
 mod law;

@@ -1,6 +1,7 @@
 ghost use Rattle.std.specs.Prelude.{IfOk};
 ghost use Rattle.number_nodes.specs.Numbers.{NumbersLoopNames, NumbersNames, NumbersTarget, NumbersTargetList, NumbersTargets};
 
+use crate::both::both;
 use crate::expression::number_expr;
 use crate::node::{number_name, number_node};
 use crate::turned::turned;
@@ -43,9 +44,11 @@ fn number_place(
 ) -> Result<Target, Memory>
     ensures { IfOk result (λ numbered. NumbersTarget next.old (Target.Index node object index) numbered next.new) }
 {
-    let node = number_node(next, node)?;
-    let object = number_expr(alloc, next, object)?;
-    let index = number_expr(alloc, next, index)?;
+    let node = number_node(next, node);
+    let object = number_expr(alloc, next, object);
+    let index = number_expr(alloc, next, index);
+    let parts = both(object, index);
+    let (node, (object, index)) = both(node, parts)?;
     Ok(Target::Index(node, object, index))
 }
 
@@ -59,8 +62,9 @@ fn number_field(
 ) -> Result<Target, Memory>
     ensures { IfOk result (λ numbered. NumbersTarget next.old (Target.Field node object name) numbered next.new) }
 {
-    let node = number_node(next, node)?;
-    let object = number_expr(alloc, next, object)?;
+    let node = number_node(next, node);
+    let object = number_expr(alloc, next, object);
+    let (node, object) = both(node, object)?;
     Ok(Target::Field(node, object, name))
 }
 
