@@ -1,8 +1,9 @@
 use crate::number_nodes;
 use codon_base::{Memory, NodeId, Span};
-use source_trees::{Expr, Item, Module, Name, Node, Stmt, UnaryOp, prelude};
+use source_trees::{Expr, Item, Module, Name, Node, Stmt, Target, Targets, UnaryOp, prelude};
 use sqlite_items::{Boxed, Items};
 use std::alloc::Global;
+use std::process::Abort;
 use std::test::Fail;
 
 /// The numbers of the names of the functions.
@@ -64,6 +65,24 @@ fn call(alloc: Global) -> Result<Expr, Memory> {
     Ok(Expr::Call(node(), name, arguments))
 }
 
+/// `x.m(-y)`
+fn method(alloc: Global) -> Result<Expr, Memory> {
+    let mut arguments = Items::new(alloc);
+    arguments.push(negative(alloc)?)?;
+    let object = Boxed::new(alloc, variable(alloc, b"x")?)?;
+    let name = Items::from_slice(alloc, b"m")?;
+    Ok(Expr::MethodCall(node(), node(), object, name, arguments))
+}
+
+/// `x[-y] = f(x, -y)`
+fn store(alloc: Global) -> Result<Stmt, Memory> {
+    let object = Boxed::new(alloc, variable(alloc, b"x")?)?;
+    let index = Boxed::new(alloc, negative(alloc)?)?;
+    let value = call(alloc)?;
+    let target = Target::Index(node(), object.into_inner(), index.into_inner());
+    Ok(Stmt::Assign(node(), Targets::One(target), value))
+}
+
 /// Pushes the numbers of names, calls and signs.
 fn push_numbers(numbers: &mut Items<u32>, expr: &Expr) -> Result<(), Memory> {
     match expr {
@@ -80,24 +99,84 @@ fn push_numbers(numbers: &mut Items<u32>, expr: &Expr) -> Result<(), Memory> {
             }
             Ok(())
         }
+        Expr::MethodCall(node, method, object, _, arguments) => {
+            numbers.push(node.id.0)?;
+            numbers.push(method.id.0)?;
+            push_numbers(numbers, object.get())?;
+            for argument in arguments.as_slice() {
+                push_numbers(numbers, argument)?;
+            }
+            Ok(())
+        }
         _ => Ok(()),
     }
 }
 
-/// The numbers of statements that are expressions, and of what stands in them.
+/// Pushes the numbers of what is written to `object[index]`.
+fn push_targets(numbers: &mut Items<u32>, targets: &Targets) -> Result<(), Memory> {
+    if let Targets::One(Target::Index(node, object, index)) = targets {
+        numbers.push(node.id.0)?;
+        push_numbers(numbers, object)?;
+        push_numbers(numbers, index)?;
+    }
+    Ok(())
+}
+
+fn push_statement(numbers: &mut Items<u32>, stmt: &Stmt) -> Result<(), Memory> {
+    match stmt {
+        Stmt::Pass(node) => Ok(numbers.push(node.id.0)?),
+        Stmt::Evaluate(node, expr) => {
+            numbers.push(node.id.0)?;
+            push_numbers(numbers, expr)
+        }
+        Stmt::Assign(node, targets, value) => {
+            numbers.push(node.id.0)?;
+            push_targets(numbers, targets)?;
+            push_numbers(numbers, value)
+        }
+        _ => Ok(()),
+    }
+}
+
+/// The numbers of statements, and of what stands in them.
 fn numbers_within(alloc: Global, source: &Module) -> Result<Items<u32>, Memory> {
     let mut numbers = Items::new(alloc);
     for item in source.items.as_slice() {
-        if let Item::Stmt(Stmt::Evaluate(node, expr)) = item {
-            numbers.push(node.id.0)?;
-            push_numbers(&mut numbers, expr)?;
+        if let Item::Stmt(stmt) = item {
+            push_statement(&mut numbers, stmt)?;
         }
     }
     Ok(numbers)
 }
 
+fn check_numbers(
+    rt: &impl Abort,
+    alloc: Global,
+    stmt: Stmt,
+    wanted: &[u32],
+) -> Result<(), Fail> {
+    let mut items = Items::new(alloc);
+    items.push(Item::Stmt(stmt))?;
+    let numbered = number_nodes(alloc, Module { items })?;
+    let numbers = numbers_within(alloc, &numbered)?;
+    assert_eq!(rt; numbers.as_slice(), wanted);
+    Ok(())
+}
+
 #[test]
 fn a_node_stands_before_its_parts(rt: HostRuntime) -> Result<(), Fail> {
+    let alloc = rt.alloc();
+    check_numbers(&rt, alloc, Stmt::Pass(node()), [0].as_slice())?;
+    let stmt = Stmt::Evaluate(node(), call(alloc)?);
+    check_numbers(&rt, alloc, stmt, [0, 1, 2, 3, 4, 5].as_slice())?;
+    let stmt = Stmt::Evaluate(node(), method(alloc)?);
+    check_numbers(&rt, alloc, stmt, [0, 1, 2, 3, 4, 5].as_slice())?;
+    let stmt = store(alloc)?;
+    check_numbers(&rt, alloc, stmt, [0, 1, 2, 3, 4, 5, 6, 7, 8, 9].as_slice())
+}
+
+#[test]
+fn statements_are_numbered_in_order(rt: HostRuntime) -> Result<(), Fail> {
     let alloc = rt.alloc();
     let mut items = Items::new(alloc);
     items.push(Item::Stmt(Stmt::Evaluate(node(), call(alloc)?)))?;
