@@ -1,5 +1,5 @@
 -- What is read of an assignment and of a row, from what their parts read.
-use Rattle.std.proofs.Common.{◌≡◌, ℕ, ◌-◌, Bool, true, List, [], ◌∷◌, ◌++◌, length, sym, ◌∙◌, ap, subst, Result, Option, Some, None}
+use Rattle.std.proofs.Common.{◌≡◌, ℕ, ◌-◌, Bool, true, List, [], ◌∷◌, ◌++◌, length, refl, sym, ◌∙◌, ap, subst, Result, Option, Some, None}
 use Rattle.indent_lexer.specs.declared.token.Token.{Token}
 use Rattle.source_trees.specs.declared.expression.Expr.{Expr}
 use Rattle.source_trees.specs.declared.node.Node.{Node}
@@ -20,7 +20,7 @@ use Rattle.parse_statements.specs.Code.{readers}
 use Rattle.parse_statements.specs.Heads.{is_equals, starts_head, head_item, assign, update, row_end, row_after}
 use Rattle.parse_statements.specs.Items.{items}
 
-pub assign_read : (n k : ℕ) (x : Targets) (y : Expr) (m : Node) (ts mid rest : List Token) (t : Token) → expect is_equals ts ≡ Parsed t mid → k ≡ n - 1
+assign_read : (n k : ℕ) (x : Targets) (y : Expr) (m : Node) (ts mid rest : List Token) (t : Token) → expect is_equals ts ≡ Parsed t mid → k ≡ n - 1
     → items readers k mid ≡ Parsed y rest → m ≡ node_of_targets x → assign readers n (Some x) ts ≡ Parsed (stmt.Assign m x y) rest
 unfolding assign
 assign_read n k x y m ts mid rest t e w h q =
@@ -28,13 +28,21 @@ assign_read n k x y m ts mid rest t e w h q =
     ∙ (ap (λ j. and_then (items readers j mid) (λ z. pure (stmt.Assign (node_of_targets x) x z))) (sym w)
     ∙ (ap (λ o. and_then o (λ z. pure (stmt.Assign (node_of_targets x) x z))) h ∙ ap (λ j. Parsed (stmt.Assign j x y) rest) (sym q)))
 
-pub update_read : (n k : ℕ) (x : Target) (b : BinaryOp) (y : Expr) (m : Node) (ts mid rest : List Token) → take_by (look_up updates) ts ≡ Parsed b mid → k ≡ n - 1
+update_read : (n k : ℕ) (x : Target) (b : BinaryOp) (y : Expr) (m : Node) (ts mid rest : List Token) → take_by (look_up updates) ts ≡ Parsed b mid → k ≡ n - 1
     → items readers k mid ≡ Parsed y rest → m ≡ node_of_target x → update readers n (Some x) ts ≡ Parsed (stmt.Update m x b y) rest
 unfolding update
 update_read n k x b y m ts mid rest e w h q =
     ap (λ o. and_then o (λ c us. and_then (items readers (n - 1) us) (λ z. pure (stmt.Update (node_of_target x) x c z)))) e
     ∙ (ap (λ j. and_then (items readers j mid) (λ z. pure (stmt.Update (node_of_target x) x b z))) (sym w)
     ∙ (ap (λ o. and_then o (λ z. pure (stmt.Update (node_of_target x) x b z))) h ∙ ap (λ j. Parsed (stmt.Update j x b y) rest) (sym q)))
+
+pub assign_done : (n k : ℕ) (x : Targets) (y : Expr) (s : Stmt) (ts mid rest : List Token) (t : Token) → expect is_equals ts ≡ Parsed t mid → k ≡ n - 1
+    → items readers k mid ≡ Parsed y rest → s ≡ stmt.Assign (node_of_targets x) x y → assign readers n (Some x) ts ≡ Parsed s rest
+assign_done n k x y s ts mid rest t e w h q = assign_read n k x y (node_of_targets x) ts mid rest t e w h refl ∙ ap (λ z. Parsed z rest) (sym q)
+
+pub update_done : (n k : ℕ) (x : Target) (b : BinaryOp) (y : Expr) (s : Stmt) (ts mid rest : List Token) → take_by (look_up updates) ts ≡ Parsed b mid → k ≡ n - 1
+    → items readers k mid ≡ Parsed y rest → s ≡ stmt.Update (node_of_target x) x b y → update readers n (Some x) ts ≡ Parsed s rest
+update_done n k x b y s ts mid rest e w h q = update_read n k x b y (node_of_target x) ts mid rest e w h refl ∙ ap (λ z. Parsed z rest) (sym q)
 
 abbrev turns : ℕ → List Expr → List Token → Outcome Token (List Expr × Bool)
 turns k xs ts = repeat (row_test is_comma starts_head) (row_turn is_comma (head_item readers k) (λ v y. v ++ y ∷ [])) (length ts) (xs, true) ts

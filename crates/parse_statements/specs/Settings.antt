@@ -5,6 +5,7 @@ use Rattle.indent_lexer.specs.declared.token.Token.{Token}
 use Rattle.source_trees.specs.declared.expression.Expr.{Expr}
 use Rattle.source_trees.specs.declared.pipeline.PrintOptions.{PrintOptions}
 use Rattle.source_trees.specs.declared.pipeline.PrintOptions.TheVariants.{Neither, Sep, End, SepEnd, EndSep}
+use Rattle.source_trees.specs.declared.pipeline.Printed.{Printed}
 use Rattle.source_trees.specs.declared.statement.ParOptions.{ParOptions}
 use Rattle.grammar_rules.specs.Statements.{schedules}
 use Rattle.grammar_rules.specs.Words.{number_of, text_of, entry_of}
@@ -24,6 +25,9 @@ setter (End y) printed.Sep x = EndSep y x
 setter (End y) printed.End x = End y
 setter (SepEnd y z) o x = SepEnd y z
 setter (EndSep y z) o x = EndSep y z
+
+abbrev pub printed_of : List Expr → PrintOptions → Printed
+printed_of values options = record { values = values; options = options }
 
 -- the option stands for what is made of those before it
 abbrev pub Sets : PrintOptions → Option (Expr → PrintOptions) → Option PrintOption → Type 0

@@ -3,6 +3,7 @@ ghost use Rattle.parse_laws.specs.Parser.{sees, repeat, row_turn};
 ghost use Rattle.parse_laws.specs.Loops.{row_test};
 ghost use Rattle.source_trees.specs.declared.expression.Commas.TheVariants.{Bare};
 ghost use Rattle.grammar_rules.specs.Expressions.{node_of};
+ghost use Rattle.grammar_rules.specs.Simple.{node_of_target, node_of_targets};
 ghost use Rattle.grammar_rules.specs.Words.{is_comma};
 ghost use Rattle.parse_expressions.specs.Code.{Reads};
 ghost use Rattle.parse_statements.specs.Targets.{is_pointed, is_print, target_of, targets_of};
@@ -11,12 +12,14 @@ ghost use Rattle.parse_statements.specs.Code.{readers};
 
 use crate::operator::take_update;
 use crate::row::read_items;
-use crate::target::{is_pointed, is_print, node_of_target, node_of_targets, several_targets};
+use crate::target::{
+    boxed_target, is_pointed, is_print, node_of_target, node_of_targets, one_target, several_targets,
+};
 use crate::token::{MOST_ITEMS, expect_word, sees_word};
 use parse_expressions::{Cursor, Measured, ParseError, node_at, read_expression, read_target};
 use parse_laws::Cause;
-use source_trees::{Commas, Expr, Node, Stmt, Target, Targets};
-use sqlite_items::Items;
+use source_trees::{BinaryOp, Commas, Expr, Node, Stmt, Target, Targets};
+use sqlite_items::{Boxed, Items};
 use std::alloc::{AllocError, Global};
 use std::marker::Model;
 
@@ -193,30 +196,38 @@ fn more_heads(
     Ok(row)
 }
 
+/// The assignment of a value to these targets.
+fn assigned(targets: Boxed<Targets>, value: Expr) -> Stmt
+    ensures { result ≡ Stmt.Assign (node_of_targets targets) targets value }
+{
+    let node = node_of_targets(targets.get());
+    Stmt::Assign(node, targets.into_inner(), value)
+}
+
 /// `=` and what is assigned to these targets.
 #[tactic(auto, unfolding(crate::specs::Heads::assign))]
 fn assign_to(
     alloc: Global,
     cursor: &mut Cursor<'_>,
     room: u32,
-    targets: Targets,
+    targets: Boxed<Targets>,
 ) -> Result<Stmt, ParseError>
     ensures { Reads (spec.assign readers room (Some targets) cursor.old) result cursor.new }
 {
     cursor.expect_op(b"=".as_slice())?;
     let low = room.saturating_sub(1);
     let value = read_items(alloc, cursor, low)?;
-    let node = node_of_targets(&targets);
-    Ok(Stmt::Assign(node, targets, value))
+    let statement = assigned(targets, value);
+    Ok(statement)
 }
 
 /// The same where what stands before `=` may be assigned to.
 #[tactic(auto, unfolding(crate::specs::Heads::assign))]
-pub fn assign(
+fn assign(
     alloc: Global,
     cursor: &mut Cursor<'_>,
     room: u32,
-    targets: Option<Targets>,
+    targets: Option<Boxed<Targets>>,
 ) -> Result<Stmt, ParseError>
     ensures { Reads (spec.assign readers room targets cursor.old) result cursor.new }
 {
@@ -226,30 +237,51 @@ pub fn assign(
     }
 }
 
+/// The assignment whose left side is this expression.
+pub fn assign_one(
+    alloc: Global,
+    cursor: &mut Cursor<'_>,
+    room: u32,
+    tree: Expr,
+) -> Result<Stmt, ParseError>
+    ensures { Reads (spec.assign readers room (spec.one_target (target_of tree)) cursor.old) result cursor.new }
+{
+    let targets = one_target(alloc, tree)?;
+    assign(alloc, cursor, room, targets)
+}
+
+/// The update of this target by an operator and its right side.
+fn updated(target: Boxed<Target>, op: BinaryOp, value: Expr) -> Stmt
+    ensures { result ≡ Stmt.Update (node_of_target target) target op value }
+{
+    let node = node_of_target(target.get());
+    Stmt::Update(node, target.into_inner(), op, value)
+}
+
 /// An operator with `=` and its right side, behind this target.
 #[tactic(auto, unfolding(crate::specs::Heads::update))]
 fn update_to(
     alloc: Global,
     cursor: &mut Cursor<'_>,
     room: u32,
-    target: Target,
+    target: Boxed<Target>,
 ) -> Result<Stmt, ParseError>
     ensures { Reads (spec.update readers room (Some target) cursor.old) result cursor.new }
 {
     let op = take_update(cursor)?;
     let low = room.saturating_sub(1);
     let value = read_items(alloc, cursor, low)?;
-    let node = node_of_target(&target);
-    Ok(Stmt::Update(node, target, op, value))
+    let statement = updated(target, op, value);
+    Ok(statement)
 }
 
 /// The same where what stands before the operator may be assigned to.
 #[tactic(auto, unfolding(crate::specs::Heads::update))]
-pub fn update(
+fn update(
     alloc: Global,
     cursor: &mut Cursor<'_>,
     room: u32,
-    target: Option<Target>,
+    target: Option<Boxed<Target>>,
 ) -> Result<Stmt, ParseError>
     ensures { Reads (spec.update readers room target cursor.old) result cursor.new }
 {
@@ -257,6 +289,19 @@ pub fn update(
         Some(target) => update_to(alloc, cursor, room, target),
         None => Err(ParseError::Refused(Cause::Unexpected)),
     }
+}
+
+/// The update of what this expression is.
+pub fn update_one(
+    alloc: Global,
+    cursor: &mut Cursor<'_>,
+    room: u32,
+    tree: Expr,
+) -> Result<Stmt, ParseError>
+    ensures { Reads (spec.update readers room (target_of tree) cursor.old) result cursor.new }
+{
+    let target = boxed_target(alloc, tree)?;
+    update(alloc, cursor, room, target)
 }
 
 /// The tuple of these items, where they make one, as a statement.

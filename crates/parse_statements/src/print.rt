@@ -15,8 +15,9 @@ use indent_lexer::TokenKind;
 use parse_expressions::{Cursor, ParseError, read_expression};
 use parse_laws::Cause;
 use source_trees::{Expr, PrintOptions, Printed};
-use sqlite_items::Items;
+use sqlite_items::{Boxed, Items};
 use std::alloc::{AllocError, Global};
+use std::marker::Model;
 
 /// An option of `print`.
 #[derive(Clone, Copy, Debug, PartialEq, Eq)]
@@ -123,11 +124,30 @@ fn with_option(options: PrintOptions, option: PrintOption, tree: Expr) -> PrintO
     }
 }
 
-/// Whether one more value may follow.
-fn takes_one(printed: &Printed) -> bool
-    ensures { result ≡ spec.takes_one printed.now }
+/// Whether no option is written.
+fn is_neither(options: &PrintOptions) -> bool
+    ensures { result ≡ spec.is_neither options.now }
 {
-    matches!(printed.options, PrintOptions::Neither) && printed.values.len() < MOST_ITEMS
+    match options {
+        PrintOptions::Neither => true,
+        PrintOptions::Sep(_) => false,
+        PrintOptions::End(_) => false,
+        PrintOptions::SepEnd(_, _) => false,
+        PrintOptions::EndSep(_, _) => false,
+    }
+}
+
+/// Whether both options are written.
+fn is_whole(options: &PrintOptions) -> bool
+    ensures { result ≡ spec.is_whole options.now }
+{
+    match options {
+        PrintOptions::Neither => false,
+        PrintOptions::Sep(_) => false,
+        PrintOptions::End(_) => false,
+        PrintOptions::SepEnd(_, _) => true,
+        PrintOptions::EndSep(_, _) => true,
+    }
 }
 
 /// These trees with one more at the end.
@@ -139,24 +159,79 @@ fn pushed(values: Items<Expr>, tree: Expr) -> Result<Items<Expr>, AllocError>
     Ok(values)
 }
 
-/// These with a value at the end.
-fn with_value(printed: Printed, tree: Expr) -> Result<Printed, AllocError>
-    ensures { IfOk result (λ p. p ≡ spec.with_value printed tree) }
-{
-    let Printed { values, options } = printed;
-    match pushed(values, tree) {
-        Ok(values) => Ok(Printed { values, options }),
-        Err(error) => Err(error),
-    }
+/// Values and options that are read so far. Contracts see what would be printed.
+#[derive(Drop)]
+pub struct OpenPrinted {
+    values: Items<Expr>,
+    options: Boxed<PrintOptions>,
 }
 
-/// These with an option.
-fn set(printed: Printed, option: PrintOption, tree: Expr) -> Printed
-    ensures { result ≡ spec.with_options printed (setter printed.options option tree) }
-{
-    let Printed { values, options } = printed;
-    let options = with_option(options, option, tree);
-    Printed { values, options }
+impl Model for OpenPrinted {
+    ghost use Rattle.source_trees.specs.declared.pipeline.Printed.{Printed};
+    ghost use Rattle.source_trees.specs.contracts.pipeline.Printed as p;
+    ghost use Rattle.std.specs.Coded.{codes};
+    ghost use Rattle.parse_statements.specs.Settings.{printed_of};
+
+    ghost Value = { Printed };
+
+    ghost coded = { Prim.hlevel (codes, p.the_row.coded) };
+
+    ghost view = { λ o. printed_of o.values o.options };
+}
+
+impl OpenPrinted {
+    fn new(alloc: Global) -> Result<OpenPrinted, AllocError>
+        ensures { IfOk result (λ p. p ≡ spec.nothing) }
+    {
+        let options = Boxed::new(alloc, PrintOptions::Neither)?;
+        Ok(OpenPrinted {
+            values: Items::new(alloc),
+            options,
+        })
+    }
+
+    fn options(&self) -> &PrintOptions
+        ensures { result.now ≡ self.now.options }
+    {
+        self.options.get()
+    }
+
+    /// Whether one more value may follow.
+    fn takes_one(&self) -> bool
+        ensures { result ≡ spec.takes_one self.now }
+    {
+        is_neither(self.options.get()) && self.values.len() < MOST_ITEMS
+    }
+
+    /// Puts a value at the end.
+    fn with_value(self, tree: Expr) -> Result<OpenPrinted, AllocError>
+        ensures { IfOk result (λ p. p ≡ spec.with_value self tree) }
+    {
+        let OpenPrinted { values, options } = self;
+        let values = pushed(values, tree)?;
+        Ok(OpenPrinted { values, options })
+    }
+
+    /// Puts an option behind those that stand.
+    fn set(self, alloc: Global, option: PrintOption, tree: Expr) -> Result<OpenPrinted, AllocError>
+        ensures { IfOk result (λ p. p ≡ spec.with_options self (setter self.options option tree)) }
+    {
+        let OpenPrinted { values, options } = self;
+        let options = with_option(options.into_inner(), option, tree);
+        let options = Boxed::new(alloc, options)?;
+        Ok(OpenPrinted { values, options })
+    }
+
+    /// What is printed.
+    pub fn into_printed(self) -> Printed
+        ensures { result ≡ self }
+    {
+        let OpenPrinted { values, options } = self;
+        Printed {
+            values,
+            options: options.into_inner(),
+        }
+    }
 }
 
 /// `=` and the value of an option.
@@ -165,14 +240,14 @@ fn set_to(
     alloc: Global,
     cursor: &mut Cursor<'_>,
     room: u32,
-    printed: Printed,
+    printed: OpenPrinted,
     option: PrintOption,
-) -> Result<Printed, ParseError>
+) -> Result<OpenPrinted, ParseError>
     ensures { Reads (spec.set_to readers room printed (Some (setter printed.options option)) cursor.old) result cursor.new }
 {
     cursor.expect_op(b"=".as_slice())?;
     let tree = read_expression(alloc, cursor, room)?;
-    Ok(set(printed, option, tree.into_tree()))
+    Ok(printed.set(alloc, option, tree.into_tree())?)
 }
 
 /// `=` and the value of the option that this expression names.
@@ -181,15 +256,15 @@ fn set_by(
     alloc: Global,
     cursor: &mut Cursor<'_>,
     room: u32,
-    printed: Printed,
+    printed: OpenPrinted,
     tree: &Expr,
-) -> Result<Printed, ParseError>
+) -> Result<OpenPrinted, ParseError>
     ensures { Reads (spec.set_to readers room printed (spec.option_by printed.options tree.now) cursor.old) result cursor.new }
 {
-    let Some(option) = option_by(&printed.options, tree) else {
-        return Err(ParseError::Refused(Cause::Unexpected));
-    };
-    set_to(alloc, cursor, room, printed, option)
+    match option_by(printed.options(), tree) {
+        Some(option) => set_to(alloc, cursor, room, printed, option),
+        None => Err(ParseError::Refused(Cause::Unexpected)),
+    }
 }
 
 /// A value, or an option where `=` follows its name.
@@ -197,15 +272,15 @@ fn value_or_option(
     alloc: Global,
     cursor: &mut Cursor<'_>,
     room: u32,
-    printed: Printed,
-) -> Result<Printed, ParseError>
+    printed: OpenPrinted,
+) -> Result<OpenPrinted, ParseError>
     ensures { Reads (and_then (read room Whole cursor.old) (λ x. choose is_equals (spec.set_to readers room printed (spec.option_by printed.options x)) (pure (spec.with_value printed x)))) result cursor.new }
 {
     let tree = read_expression(alloc, cursor, room)?.into_tree();
     if cursor.sees_op(b"=".as_slice()) {
         return set_by(alloc, cursor, room, printed, &tree);
     }
-    Ok(with_value(printed, tree)?)
+    Ok(printed.with_value(tree)?)
 }
 
 /// One more value or option.
@@ -214,26 +289,23 @@ fn print_item(
     alloc: Global,
     cursor: &mut Cursor<'_>,
     room: u32,
-    printed: Printed,
-) -> Result<Printed, ParseError>
+    printed: OpenPrinted,
+) -> Result<OpenPrinted, ParseError>
     ensures { Reads (spec.print_item readers room printed cursor.old) result cursor.new }
 {
-    if takes_one(&printed) {
+    if printed.takes_one() {
         return value_or_option(alloc, cursor, room, printed);
     }
-    let option = take_option(cursor, &printed.options)?;
+    let option = take_option(cursor, printed.options())?;
     set_to(alloc, cursor, room, printed, option)
 }
 
 /// Whether a comma is next, and a value or an option may follow it.
-fn goes_on(cursor: &Cursor<'_>, printed: &Printed) -> bool
+#[tactic(auto, using(crate::proofs::Goes::sees_when))]
+fn goes_on(cursor: &Cursor<'_>, printed: &OpenPrinted) -> bool
     ensures { result ≡ sees (λ t. not (spec.is_whole printed.now.options) && is_comma t) cursor.now }
 {
-    match printed.options {
-        PrintOptions::SepEnd(_, _) => false,
-        PrintOptions::EndSep(_, _) => false,
-        _ => cursor.sees_op(b",".as_slice()),
-    }
+    !is_whole(printed.options()) && cursor.sees_op(b",".as_slice())
 }
 
 /// A comma and one more value or option.
@@ -241,8 +313,8 @@ fn print_turn(
     alloc: Global,
     cursor: &mut Cursor<'_>,
     room: u32,
-    printed: Printed,
-) -> Result<Printed, ParseError>
+    printed: OpenPrinted,
+) -> Result<OpenPrinted, ParseError>
     ensures { Reads (and_then (expect is_comma cursor.old) (λ _. spec.print_item readers room printed)) result cursor.new }
 {
     cursor.expect_op(b",".as_slice())?;
@@ -254,8 +326,8 @@ fn more_printed(
     alloc: Global,
     cursor: &mut Cursor<'_>,
     room: u32,
-    first: Printed,
-) -> Result<Printed, ParseError>
+    first: OpenPrinted,
+) -> Result<OpenPrinted, ParseError>
     ensures { Reads (spec.more_printed readers room first cursor.old) result cursor.new }
 {
     let mut printed = first;
@@ -274,12 +346,13 @@ pub fn read_printed(
     alloc: Global,
     cursor: &mut Cursor<'_>,
     room: u32,
-) -> Result<Printed, ParseError>
+) -> Result<OpenPrinted, ParseError>
     ensures { Reads (spec.printed readers room cursor.old) result cursor.new }
 {
+    let none = OpenPrinted::new(alloc)?;
     if !cursor.begins(3) {
-        return Ok(nothing(alloc));
+        return Ok(none);
     }
-    let first = print_item(alloc, cursor, room, nothing(alloc))?;
+    let first = print_item(alloc, cursor, room, none)?;
     more_printed(alloc, cursor, room, first)
 }

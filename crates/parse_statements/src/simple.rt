@@ -9,12 +9,12 @@ ghost use Rattle.parse_statements.specs.Simple as spec;
 ghost use Rattle.parse_statements.specs.Heads as heads;
 ghost use Rattle.parse_statements.specs.Code.{readers};
 
-use crate::head::{assign, print_name, row_after, update};
+use crate::head::{assign_one, row_after, update_one};
 use crate::lead::{Follow, Lead, follow_of, lead_of};
 use crate::print::read_printed;
 use crate::row::read_items;
 use crate::stage::read_stages;
-use crate::target::{is_print, one_target, target_of};
+use crate::target::{is_print, target_of};
 use crate::token::expect_word;
 use codon_base::Spelling;
 use indent_lexer::Token;
@@ -147,8 +147,8 @@ fn tail(
 {
     match follow_of(cursor) {
         Follow::Comma => row(alloc, cursor, room, node, tree, fits),
-        Follow::Equals => assign(alloc, cursor, room, one_target(tree)),
-        Follow::Augmented => update(alloc, cursor, room, target_of(tree)),
+        Follow::Equals => assign_one(alloc, cursor, room, tree),
+        Follow::Augmented => update_one(alloc, cursor, room, tree),
         Follow::Piped => pipe(alloc, cursor, room, node, tree),
         Follow::Colon => annotate(alloc, cursor, room, target_of(tree)),
         Follow::Over => evaluate(cursor, node, tree),
@@ -168,7 +168,7 @@ fn print_call(
     cursor.expect_op(b"(".as_slice())?;
     let printed = read_printed(alloc, cursor, room.saturating_sub(1))?;
     cursor.expect_op(b")".as_slice())?;
-    Ok(Stmt::Print(node_at(token), printed))
+    Ok(Stmt::Print(node_at(token), printed.into_printed()))
 }
 
 /// The name `print` as a target, and what follows it.

@@ -245,7 +245,7 @@ fn print_stage(alloc: Global, cursor: &mut Cursor<'_>, room: u32) -> Result<Stag
     cursor.expect_op(b"(".as_slice())?;
     let printed = read_printed(alloc, cursor, room)?;
     cursor.expect_op(b")".as_slice())?;
-    Ok(StageForm::Print(printed))
+    Ok(StageForm::Print(printed.into_printed()))
 }
 
 /// The stage that a name makes without brackets.
@@ -335,9 +335,9 @@ pub fn read_stages(
     ensures { Reads (spec.stages readers room cursor.old) result cursor.new }
 {
     let first = stage(alloc, cursor, room)?;
-    let more = more_stages(alloc, cursor, room)?;
     let mut stages = Items::new(alloc);
     stages.push(first)?;
+    let more = more_stages(alloc, cursor, room)?;
     stages.append(more)?;
     Ok(stages)
 }

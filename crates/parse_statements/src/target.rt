@@ -6,7 +6,7 @@ ghost use Rattle.parse_statements.specs.Heads.{one_target, several_targets};
 
 use crate::token::spells;
 use source_trees::{Expr, Node, Target, Targets};
-use sqlite_items::Items;
+use sqlite_items::{Boxed, Items};
 use std::alloc::{AllocError, Global};
 
 /// The target that the expression is, if it is one.
@@ -73,14 +73,23 @@ pub fn node_of_targets(targets: &Targets) -> Node
     }
 }
 
-/// The expression as the only target, if it is one.
-#[tactic(auto)]
-pub fn one_target(tree: Expr) -> Option<Targets>
-    ensures { result ≡ one_target (spec.target_of tree) }
+/// The expression as a target in a box, if it is one.
+pub fn boxed_target(alloc: Global, tree: Expr) -> Result<Option<Boxed<Target>>, AllocError>
+    ensures { IfOk result (λ o. o ≡ spec.target_of tree) }
 {
     match target_of(tree) {
-        Some(target) => Some(Targets::One(target)),
-        None => None,
+        Some(target) => Ok(Some(Boxed::new(alloc, target)?)),
+        None => Ok(None),
+    }
+}
+
+/// The expression as the only target, if it is one.
+pub fn one_target(alloc: Global, tree: Expr) -> Result<Option<Boxed<Targets>>, AllocError>
+    ensures { IfOk result (λ o. o ≡ one_target (spec.target_of tree)) }
+{
+    match target_of(tree) {
+        Some(target) => Ok(Some(Boxed::new(alloc, Targets::One(target))?)),
+        None => Ok(None),
     }
 }
 
@@ -120,7 +129,10 @@ fn reversed(alloc: Global, targets: Items<Target>) -> Result<Items<Target>, Allo
 }
 
 /// The expressions as targets with commas, if each is one.
-pub fn several_targets(alloc: Global, items: Items<Expr>) -> Result<Option<Targets>, AllocError>
+pub fn several_targets(
+    alloc: Global,
+    items: Items<Expr>,
+) -> Result<Option<Boxed<Targets>>, AllocError>
     ensures { IfOk result (λ o. o ≡ several_targets (spec.targets_of items)) }
 {
     let Some(back) = targets_back(alloc, items)? else {
@@ -131,5 +143,5 @@ pub fn several_targets(alloc: Global, items: Items<Expr>) -> Result<Option<Targe
         return Ok(None);
     };
     let node = node_of_target(first);
-    Ok(Some(Targets::Several(node, targets)))
+    Ok(Some(Boxed::new(alloc, Targets::Several(node, targets))?))
 }
