@@ -26,3 +26,4 @@ pub mod Afters
 pub mod Bare
 pub mod Assigned
 pub mod Named
+pub mod Ended

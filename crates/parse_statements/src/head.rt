@@ -305,7 +305,7 @@ pub fn update_one(
 }
 
 /// The tuple of these items, where they make one, as a statement.
-#[tactic(auto, unfolding(crate::specs::Heads::evaluate, grammar_rules::specs::Expressions::node_of))]
+#[tactic(auto, using(crate::proofs::Ended::row_tuple), unfolding(crate::specs::Heads::evaluate, grammar_rules::specs::Expressions::node_of))]
 fn evaluate_row(cursor: &Cursor<'_>, node: Node, heads: Heads) -> Result<Stmt, ParseError>
     ensures { Reads (spec.evaluate readers (spec.is_value heads) (Expr.Tuple node Bare heads) cursor.now) result cursor.now }
 {
@@ -317,7 +317,7 @@ fn evaluate_row(cursor: &Cursor<'_>, node: Node, heads: Heads) -> Result<Stmt, P
 }
 
 /// The end of items with commas, the first of which has this node.
-#[tactic(auto, unfolding(crate::specs::Heads::row_end, crate::specs::Heads::evaluate))]
+#[tactic(auto, using(crate::proofs::Ended::row_value, crate::proofs::Ended::row_targets))]
 fn row_end(
     alloc: Global,
     cursor: &mut Cursor<'_>,

@@ -172,7 +172,7 @@ fn print_call(
 }
 
 /// The name `print` as a target, and what follows it.
-#[tactic(auto, using(crate::proofs::Goes::sees_goes, crate::proofs::Named::name_fits), unfolding(grammar_rules::specs::Expressions::node_of))]
+#[tactic(auto, using(crate::proofs::Goes::sees_goes, crate::proofs::Named::name_fits, crate::proofs::Ended::name_node), unfolding(grammar_rules::specs::Expressions::node_of))]
 fn print_target(
     alloc: Global,
     cursor: &mut Cursor<'_>,
