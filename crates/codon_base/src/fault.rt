@@ -1,7 +1,6 @@
 ghost use Rattle.std.specs.Prelude.{◌≡◌, IfOk};
 
 use crate::{Memory, Text};
-use std::alloc::Global;
 
 /// The kind of a fault, which is printed as the name of an exception.
 #[derive(Clone, Copy, Debug, PartialEq, Eq)]
@@ -31,12 +30,12 @@ pub struct Fault {
 
 impl Fault {
     /// An equal fault.
-    pub fn try_clone(&self, alloc: Global) -> Result<Fault, Memory>
+    pub fn try_clone(&self) -> Result<Fault, Memory>
         ensures { IfOk result (λ fault. fault ≡ self.now) }
     {
         Ok(Fault {
             kind: self.kind,
-            text: self.text.try_clone(alloc)?,
+            text: self.text.try_clone()?,
         })
     }
 }
@@ -52,12 +51,12 @@ pub enum Ending {
 
 impl Ending {
     /// An equal ending.
-    pub fn try_clone(&self, alloc: Global) -> Result<Ending, Memory>
+    pub fn try_clone(&self) -> Result<Ending, Memory>
         ensures { IfOk result (λ ending. ending ≡ self.now) }
     {
         Ok(match self {
             Ending::Done => Ending::Done,
-            Ending::Fault(fault) => Ending::Fault(fault.try_clone(alloc)?),
+            Ending::Fault(fault) => Ending::Fault(fault.try_clone()?),
             Ending::OutOfFuel => Ending::OutOfFuel,
         })
     }

@@ -41,7 +41,10 @@ pub fn show_value<H: Holder>(
     ensures { AnswersShown result (shown (H.levels heap.now) v.now inside) }
 {
     match show_whole(alloc, &Unlent { heap }, v, inside) {
-        Ok(text) => Ok(Items::from_vec(text.into_bytes())),
+        Ok(text) => match text.into_bytes() {
+            Ok(bytes) => Ok(Items::from_vec(bytes)),
+            Err(_) => Err(ShowRefusal::Memory),
+        },
         Err(Or::No(end)) => Err(refusal_of(end)),
         Err(Or::Memory) => Err(ShowRefusal::Memory),
     }
@@ -66,10 +69,10 @@ pub fn show_whole<S: Sighted>(
 ) -> Result<Text, Or<WalkEnd>>
     ensures { AnswersWhole result (text_of (whole (S.sight sight.now)) nesting_limit inside v.now 0) }
 {
-    let mut printer = Printer {
-        text: Text::new(alloc),
-        met: 0,
+    let Ok(text) = Text::new(alloc) else {
+        return Err(Or::Memory);
     };
+    let mut printer = Printer { text, met: 0 };
     show_one(sight, v, inside, NESTING_LIMIT, &mut printer)?;
     Ok(printer.text)
 }

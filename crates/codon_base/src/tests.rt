@@ -123,7 +123,7 @@ fn parts_combine(rt: HostRuntime) {
 }
 
 fn text(alloc: Global, bytes: &[u8]) -> Result<Text, Fail> {
-    let mut text = Text::new(alloc);
+    let mut text = Text::new(alloc)?;
     for byte in bytes {
         if *byte < 128 {
             text.push(*byte)?;
@@ -330,15 +330,23 @@ fn texts_grow_and_compare(rt: HostRuntime) -> Result<(), Fail> {
     word.append(&other)?;
     word.append_bytes(b"!")?;
     assert_eq!(rt; word.as_bytes(), b"ababc!".as_slice());
-    assert!(rt; word.try_clone(alloc)?.equals(&word));
+    let mut copy = word.try_clone()?;
+    assert!(rt; copy.equals(&word));
+    copy.push(b'?')?;
+    copy.push(b'?')?;
+    assert_eq!(rt; copy.as_bytes(), b"ababc!??".as_slice());
+    assert_eq!(rt; word.as_bytes(), b"ababc!".as_slice());
+    let shared = word.try_clone()?;
+    assert_eq!(rt; word.into_bytes()?.as_slice(), b"ababc!".as_slice());
+    assert_eq!(rt; shared.into_bytes()?.as_slice(), b"ababc!".as_slice());
     Ok(())
 }
 
 #[test]
 fn texts_are_ascii(rt: HostRuntime) -> Result<(), Fail> {
     let alloc = rt.alloc();
-    assert!(rt; Text::from_bytes(Vec::from_slice(alloc, b"\x80")?).is_err());
-    assert!(rt; Text::from_bytes(Vec::from_slice(alloc, b"\x7f")?).is_ok());
+    assert!(rt; Text::from_bytes(alloc, b"\x80")?.is_none());
+    assert!(rt; Text::from_bytes(alloc, b"\x7f")?.is_some());
     Ok(())
 }
 
@@ -365,12 +373,12 @@ fn faults_and_endings_are_cloned(rt: HostRuntime) -> Result<(), Fail> {
         kind: FaultKind::Index,
         text: text(alloc, b"index out of range")?,
     };
-    let Ending::Fault(copy) = Ending::Fault(fault.try_clone(alloc)?).try_clone(alloc)? else {
+    let Ending::Fault(copy) = Ending::Fault(fault.try_clone()?).try_clone()? else {
         return Err("no fault".into());
     };
     assert_eq!(rt; copy.kind, FaultKind::Index);
     assert!(rt; copy.text.equals(&fault.text));
-    assert!(rt; matches!(&Ending::OutOfFuel.try_clone(alloc)?, Ending::OutOfFuel));
+    assert!(rt; matches!(&Ending::OutOfFuel.try_clone()?, Ending::OutOfFuel));
     Ok(())
 }
 
@@ -390,7 +398,7 @@ fn objects_change_in_place(rt: HostRuntime) -> Result<(), Fail> {
     let place = Unlent { heap: &heap };
     let shown = show_whole(alloc, &place, &below, false)?;
     assert_eq!(rt; shown.as_bytes(), b"[1, 2]".as_slice());
-    let bytes = shown.into_bytes();
+    let bytes = shown.into_bytes()?;
     assert_eq!(rt; bytes.as_slice(), b"[1, 2]".as_slice());
     Ok(())
 }

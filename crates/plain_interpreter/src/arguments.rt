@@ -24,7 +24,7 @@ fn constant(alloc: Global, e: &Expr) -> Result<Option<Value>, Memory>
     Ok(match e {
         Expr::Number(_, number) => Some(Value::Int(*number)),
         Expr::Unary(_, by, operand) => negative_number(*by, operand.get()),
-        Expr::Text(_, text) => Some(Value::Text(text.try_clone(alloc)?)),
+        Expr::Text(_, text) => Some(Value::Text(text.try_clone()?)),
         Expr::True(_) => Some(Value::Bool(true)),
         Expr::False(_) => Some(Value::Bool(false)),
         Expr::None(_) => Some(Value::Unit),

@@ -32,10 +32,10 @@ fn number_value(state: &State, number: &i64) -> Result<Value, Stop>
 }
 
 #[inline(never)]
-fn text_value(alloc: Global, state: &State, text: &Text) -> Result<Value, Stop>
+fn text_value(state: &State, text: &Text) -> Result<Value, Stop>
     ensures { Tells (pure (value.Text text.now) (seen state.now)) result state.now }
 {
-    let text = text.try_clone(alloc)?;
+    let text = text.try_clone()?;
     Ok(Value::Text(text))
 }
 

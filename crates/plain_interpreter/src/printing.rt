@@ -35,7 +35,7 @@ fn one_byte(alloc: Global, byte: u8) -> Result<Value, Memory>
     requires { byte < 128 }
     ensures { IfOk result (λ v. v ≡ value.Text (byte ∷ [])) }
 {
-    let mut text = Text::new(alloc);
+    let mut text = Text::new(alloc)?;
     text.push(byte)?;
     Ok(Value::Text(text))
 }
@@ -93,7 +93,7 @@ fn separated(alloc: Global, state: &mut State, vs: &[Value], between: &Text) -> 
     ensures { Tells (separated_texts in_place vs.now between.now (seen state.old)) result state.new }
 {
     let [first, more @ ..] = vs else {
-        return Ok(Text::new(alloc));
+        return Ok(Text::new(alloc)?);
     };
     let text = text_of_value(alloc, state, first)?;
     followed(alloc, state, more, between, text)

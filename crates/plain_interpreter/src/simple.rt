@@ -232,7 +232,7 @@ impl<
                 Value::Text(text) => Ok(text),
                 _ => Err(wrong(self.alloc)),
             },
-            None => Ok(Text::new(self.alloc)),
+            None => Ok(Text::new(self.alloc)?),
         }
     }
 

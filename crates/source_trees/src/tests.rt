@@ -54,7 +54,7 @@ fn leaves_have_height_one(rt: HostRuntime) -> Result<(), Fail> {
     let alloc = rt.alloc();
     check_expr(&rt, alloc, leaf(alloc)?, 1)?;
     check_expr(&rt, alloc, Expr::Number(here(), 7), 1)?;
-    check_expr(&rt, alloc, Expr::Text(here(), Text::new(alloc)), 1)?;
+    check_expr(&rt, alloc, Expr::Text(here(), Text::new(alloc)?), 1)?;
     check_expr(&rt, alloc, Expr::True(here()), 1)?;
     check_expr(&rt, alloc, Expr::False(here()), 1)?;
     check_expr(&rt, alloc, Expr::None(here()), 1)?;

@@ -73,7 +73,7 @@ fn character_of(alloc: Global, code: i64) -> Result<Made, Memory>
     if code < 0 || code >= 128 {
         return fault(alloc, FaultKind::Value, b"character code out of range");
     }
-    let mut text = Text::new(alloc);
+    let mut text = Text::new(alloc)?;
     text.push(code as u8)?;
     Ok(Made::Value(Value::Text(text)))
 }

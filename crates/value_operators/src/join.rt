@@ -27,7 +27,7 @@ fn joined_texts(alloc: Global, t: &Text, u: &Text) -> Result<Made, Memory>
     if t.len().saturating_add(u.len()) > SIZE_LIMIT {
         return size_fault(alloc);
     }
-    let mut text = t.try_clone(alloc)?;
+    let mut text = t.try_clone()?;
     text.append(u)?;
     Ok(Made::Value(Value::Text(text)))
 }

@@ -64,7 +64,7 @@ fn repeated_text(alloc: Global, text: &Text, count: u64) -> Result<Made, Memory>
 fn text_copies(alloc: Global, text: &Text, count: u64) -> Result<Text, Memory>
     ensures { IfOk result (λ made. made ≡ repeated count text.now) }
 {
-    let mut made = Text::new(alloc);
+    let mut made = Text::new(alloc)?;
     if text.is_empty() {
         return Ok(made);
     }

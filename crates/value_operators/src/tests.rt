@@ -26,9 +26,9 @@ impl Sighted for Lending<'_> {
 }
 
 fn text(alloc: Global, bytes: &[u8]) -> Result<Value, Fail> {
-    match Text::from_bytes(Vec::from_slice(alloc, bytes)?) {
-        Ok(text) => Ok(Value::Text(text)),
-        Err(_) => Err("not ASCII".into()),
+    match Text::from_bytes(alloc, bytes)? {
+        Some(text) => Ok(Value::Text(text)),
+        None => Err("not ASCII".into()),
     }
 }
 

@@ -125,7 +125,7 @@ fn push_text(
     match texts.get(index as usize) {
         None => Ok(Flow::Stuck),
         Some(text) => {
-            machine.stack.push(Value::Text(text.try_clone(alloc)?))?;
+            machine.stack.push(Value::Text(text.try_clone()?))?;
             Ok(Flow::Goes)
         }
     }

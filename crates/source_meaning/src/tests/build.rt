@@ -55,8 +55,8 @@ impl<'a, R: Abort> Trees<'a, R> {
     }
 
     pub fn text(&self, text: &str) -> Expr {
-        let bytes = Vec::from_slice(self.alloc, text.as_bytes()).expect(self.rt, "memory");
-        Expr::Text(NODE, Text::from_bytes(bytes).ok().expect(self.rt, "ASCII"))
+        let text = Text::from_bytes(self.alloc, text.as_bytes()).expect(self.rt, "memory");
+        Expr::Text(NODE, text.expect(self.rt, "ASCII"))
     }
 
     pub fn truth(&self, truth: bool) -> Expr {

@@ -15,7 +15,7 @@ impl Expr {
         match self {
             Expr::Name(node, spelling) => Ok(Expr::Name(*node, clone_spelling(alloc, spelling)?)),
             Expr::Number(node, number) => Ok(Expr::Number(*node, *number)),
-            Expr::Text(node, text) => Ok(Expr::Text(*node, text.try_clone(alloc)?)),
+            Expr::Text(node, text) => Ok(Expr::Text(*node, text.try_clone()?)),
             Expr::True(node) => Ok(Expr::True(*node)),
             Expr::False(node) => Ok(Expr::False(*node)),
             Expr::None(node) => Ok(Expr::None(*node)),

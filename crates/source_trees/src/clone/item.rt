@@ -63,7 +63,7 @@ impl Member {
                 let annotation = annotation.try_clone(alloc)?;
                 Ok(Member::Field(*node, name, annotation))
             }
-            Member::Text(node, text) => Ok(Member::Text(*node, text.try_clone(alloc)?)),
+            Member::Text(node, text) => Ok(Member::Text(*node, text.try_clone()?)),
             Member::Pass(node) => Ok(Member::Pass(*node)),
             Member::Method(function) => Ok(Member::Method(function.try_clone(alloc)?)),
         }
