@@ -18,6 +18,3 @@ pub use operator::{BinaryOp, Comparator, UnaryOp};
 pub use pipeline::{Joint, PrintOptions, Printed, Stage, StageForm};
 pub use prelude_tree::prelude;
 pub use statement::{Arm, For, LoopNames, ParOptions, Schedule, Stmt, Target, Targets};
-
-#[cfg(test)]
-mod tests;
