@@ -44,7 +44,7 @@ module _ (program : Program) {R : Relation} {rules : Rules} {limit more : ℕ} {
 
   comprehended_closed : (inner : Scope) (names : LoopNames) (goes_over : Iterable) (kept : Option Expr) (p q : Run Bool) (item : Expr) (k l : Run Value) → R 0 Bool p q → R 0 Value k l → R 0 Value (spec.comprehended less inner names goes_over kept p item k) (spec.comprehended greater inner names goes_over kept q item l)
   comprehended_closed inner names goes_over kept p q item k l e h =
-      chain c (allocate_closed c _) (λ list. chain c (c.looks _ _ _) (λ own. chain c (c.frames _ _ _ _ _ (over_closed program c [] goes_over _ _ _ (λ v. gather_closed inner names p q k l list v e h))) (λ _. gives c _)))
+      chain c (allocate_closed c _) (λ list. chain c (c.looks _ _ _) (λ before. chain c (over_closed program c [] goes_over _ _ _ (λ v. gather_closed inner names p q k l list v e h)) (λ _. chain c (c.changes_names _ _) (λ _. gives c _))))
 
   -- ---- calls
 

@@ -11,8 +11,8 @@ use Rattle.source_trees.specs.declared.expression.Expr.TheOpen.{Comparison-F}
 use Rattle.source_trees.specs.declared.expression.Expr.TheFolds.{para-Expr}
 use Rattle.source_trees.specs.declared.expression.Comparison.{Comparison}
 use Rattle.source_trees.specs.declared.statement.LoopNames.{LoopNames}
-use Rattle.meaning_rules.specs.State.{Spelling, Flow, Next}
-use Rattle.meaning_rules.specs.Outcome.{Run, ◌>>=◌, pure, fault, wrong, look, framed}
+use Rattle.meaning_rules.specs.State.{Spelling, with_names_of, Flow, Next}
+use Rattle.meaning_rules.specs.Outcome.{Run, ◌>>=◌, pure, fault, wrong, look, change_names}
 use Rattle.meaning_rules.specs.Bodies.{yields}
 use Rattle.source_trees.specs.Names.{loop_names}
 use Rattle.meaning_rules.specs.Objects.{operate, truth, allocate, ref_in, object, item_at, slice, append, field}
@@ -66,11 +66,12 @@ module _ (here : Setting) where
   gathered iterable =
       allocate (Listed []) >>= λ list. over here [] iterable (Gathered list) (append_to list) >>= λ _. pure list
 
-  -- a comprehension, whose names are its own
+  -- a comprehension, whose names are its own: after it they hold what they held before it
   abbrev pub comprehended : Scope → LoopNames → Iterable → Option Expr → Run Bool → Expr → Run Value → Run Value
   comprehended inner names iterable condition_tree condition item_tree item =
-      allocate (Listed []) >>= λ list. look (λ s. s.names) >>= λ own.
-      framed own (over here [] iterable (Comprehension inner names condition_tree item_tree list) (gather inner names condition item list)) >>= λ _. pure list
+      allocate (Listed []) >>= λ list. look (λ s. s.names) >>= λ before.
+      over here [] iterable (Comprehension inner names condition_tree item_tree list) (gather inner names condition item list) >>= λ _.
+      change_names (with_names_of before (loop_names names)) >>= λ _. pure list
 
   -- ---- calls
 

@@ -1,5 +1,5 @@
 -- Comprehensions: their texts, how they begin, what a turn does, and what becomes of the names.
-use Rattle.std.proofs.Common.{◌≡◌, ℕ, suc, ◌-◌, Bool, true, false, if◌then◌else◌, List, [], ◌∷◌, ◌++◌, Option, Some, None, Ok, refl, sym, ap, ◌∙◌, append_assoc}
+use Rattle.std.proofs.Common.{◌≡◌, ℕ, suc, ◌-◌, Bool, true, false, if◌then◌else◌, List, [], ◌∷◌, ◌++◌, Option, Some, None, Ok, refl, sym, ap, ◌∙◌, append_assoc, map}
 use Rattle.std.specs.List.{flat_map}
 use Rattle.std.specs.Option.{is_some}
 use Rattle.std.specs.Borrow.{Bor}
@@ -7,8 +7,8 @@ use Rattle.codon_base.specs.declared.value.Value.{Value}
 use Rattle.codon_base.specs.declared.object.Object.TheVariants.{List as Listed}
 use Rattle.source_trees.specs.declared.expression.Expr.{Expr}
 use Rattle.source_trees.specs.declared.statement.LoopNames.{LoopNames}
-use Rattle.meaning_rules.specs.State.{Spelling, Names, State, Stop, Flow, Next}
-use Rattle.meaning_rules.specs.Outcome.{Outcome, Gives, Stops, Run, and_then, bind, pure, look, framed, ◌>>=◌}
+use Rattle.meaning_rules.specs.State.{Spelling, Names, with_names_of, State, Stop, Flow, Next}
+use Rattle.meaning_rules.specs.Outcome.{Outcome, Gives, Stops, Run, and_then, bind, pure, look, change_names, ◌>>=◌}
 use Rattle.source_trees.specs.Names.{loop_names}
 use Rattle.meaning_rules.specs.Objects.{allocate, truth}
 use Rattle.meaning_rules.specs.Program.{Scope, with_locals}
@@ -20,6 +20,8 @@ use Rattle.meaning_rules.specs.Meaning.{condition_of, turn_of}
 use Rattle.plain_interpreter.specs.Steps.{looped}
 use Rattle.plain_interpreter.specs.Entered.{TellsEntered, TellsStep}
 use Rattle.plain_interpreter.specs.Cursors.{next_by}
+use Rattle.plain_interpreter.specs.Frames.{with_names}
+use Rattle.plain_interpreter.proofs.Private.{as_before}
 use Rattle.plain_interpreter.specs.Gathered.{HasNames, IsSame, turns_of, filling, ends, ended}
 use Rattle.plain_interpreter.specs.Scopes.{scope_of}
 use Rattle.plain_interpreter.specs.Seen.{seen, flow_of}
@@ -44,28 +46,28 @@ module _ (here : Setting) (scope : Scope) (names : LoopNames) (goes : Iterable) 
   abbrev gathers : Value → Run Flow
   gathers list = looped here [] goes (Comprehension (with_locals (loop_names names) scope) names kept item list)
 
-  abbrev framed_by : Value → Names → Outcome Flow → Outcome Value
-  framed_by list own o = and_then (and_then o (λ flow u. Gives flow (record u { names = own }))) (λ _ u. Gives list u)
+  abbrev ends_by : Value → Names → Outcome Flow → Outcome Value
+  ends_by list own o = and_then o (λ _ u. Gives list (with_names (with_names_of own (loop_names names) u.names) u))
 
-  begins : (s t : State) (list : Value) → allocate (Listed []) s ≡ Gives list t → comprehended_of here scope names goes kept item s ≡ framed_by list t.names (gathers list t)
-  unfolding bind pure look framed
-  begins s t list e = ap (λ (o : Outcome Value). and_then o (λ list t. framed_by list t.names (gathers list t))) e
+  begins : (s t : State) (list : Value) → allocate (Listed []) s ≡ Gives list t → comprehended_of here scope names goes kept item s ≡ ends_by list t.names (gathers list t)
+  unfolding bind pure look change_names
+  begins s t list e = ap (λ (o : Outcome Value). and_then o (λ list t. ends_by list t.names (gathers list t))) e
 
-  back : (list : Value) (own : Names) (o : Outcome Flow) → framed_by list own o ≡ and_then o (ends list own)
-  back list own (Gives flow u) = refl
+  back : (list : Value) (own : Names) (o : Outcome Flow) → ends_by list own o ≡ and_then o (ends list (loop_names names) (map own (loop_names names)))
+  back list own (Gives flow u) = ap (λ (ns : Names). Gives list (with_names ns u)) (sym (as_before own (loop_names names) u.names))
   back list own (Stops why u) = refl
 
   -- by what was found of its loop: that it was left, or the turns that it has left to make
-  pub gathering_is : (s t : State) (list : Value) (own : Names) (o : Outcome Flow) → allocate (Listed []) s ≡ Gives list t → own ≡ t.names → gathers list t ≡ o
-      → comprehended_of here scope names goes kept item s ≡ and_then o (ends list own)
-  gathering_is s t list own o e n f = begins s t list e ∙ back list t.names (gathers list t) ∙ ap (λ (o : Outcome Flow). and_then o (ends list t.names)) f ∙ ap (λ (ns : Names). and_then o (ends list ns)) (sym n)
+  pub gathering_is : (s t : State) (list : Value) (before : List Value) (o : Outcome Flow) → allocate (Listed []) s ≡ Gives list t → before ≡ map t.names (loop_names names) → gathers list t ≡ o
+      → comprehended_of here scope names goes kept item s ≡ and_then o (ends list (loop_names names) before)
+  gathering_is s t list before o e n f = begins s t list e ∙ back list t.names (gathers list t) ∙ ap (λ (o : Outcome Flow). and_then o (ends list (loop_names names) (map t.names (loop_names names)))) f ∙ ap (λ (vs : List Value). and_then o (ends list (loop_names names) vs)) (sym n)
 
   -- by how its loop began
-  pub gathering_made : (s t : State) (list : Value) (own : Names) (at : Cursor) (flow : Option Left) (whole : Bool) (new : code.State) → allocate (Listed []) s ≡ Gives list t → own ≡ t.names
+  pub gathering_made : (s t : State) (list : Value) (before : List Value) (at : Cursor) (flow : Option Left) (whole : Bool) (new : code.State) → allocate (Listed []) s ≡ Gives list t → before ≡ map t.names (loop_names names)
       → TellsEntered (gathers list t) (turns_of here scope names kept item list) (Ok flow) at new → whole ≡ is_some flow
-      → comprehended_of here scope names goes kept item s ≡ and_then (if whole then Gives Next (seen new) else turns_of here scope names kept item list at (seen new)) (ends list own)
-  gathering_made s t list own at None whole new e n f w = gathering_is s t list own (turns_of here scope names kept item list at (seen new)) e n f ∙ ap (λ (b : Bool). and_then (if b then Gives Next (seen new) else turns_of here scope names kept item list at (seen new)) (ends list own)) (sym w)
-  gathering_made s t list own at (Some flow) whole new e n f w = gathering_is s t list own (Gives (flow_of flow) (seen new)) e n f ∙ ap (λ (b : Bool). and_then (if b then Gives Next (seen new) else turns_of here scope names kept item list at (seen new)) (ends list own)) (sym w)
+      → comprehended_of here scope names goes kept item s ≡ and_then (if whole then Gives Next (seen new) else turns_of here scope names kept item list at (seen new)) (ends list (loop_names names) before)
+  gathering_made s t list before at None whole new e n f w = gathering_is s t list before (turns_of here scope names kept item list at (seen new)) e n f ∙ ap (λ (b : Bool). and_then (if b then Gives Next (seen new) else turns_of here scope names kept item list at (seen new)) (ends list (loop_names names) before)) (sym w)
+  gathering_made s t list before at (Some flow) whole new e n f w = gathering_is s t list before (Gives (flow_of flow) (seen new)) e n f ∙ ap (λ (b : Bool). and_then (if b then Gives Next (seen new) else turns_of here scope names kept item list at (seen new)) (ends list (loop_names names) before)) (sym w)
 
 -- the text inside of a comprehension
 pub inner_scope : (all : Bor (List Inner)) (names : LoopNames) (scope : Place) → HasNames all.now names scope
@@ -83,8 +85,8 @@ module _ (here : Setting) (scope inner : Scope) (names : LoopNames) (kept : Opti
       ∙ ap (λ (sc : Scope). loop here.limit (next_by here.rules here.limit) (turn_of here [] (Comprehension sc names kept item begun.list)) begun.cursor s) (sym e)
       ∙ loop_begins (next_by here.rules here.limit) (turn_of here [] (Comprehension inner names kept item begun.list)) here.limit begun.cursor s n l
 
-pub ended_same : (old new : Gathering) (o : Outcome Flow) → IsSame old new → ended new o ≡ ended old o
-ended_same old new o h = ap (λ (b : Gathering). ended b o) h
+pub ended_same : (names : LoopNames) (old new : Gathering) (o : Outcome Flow) → IsSame old new → ended names new o ≡ ended names old o
+ended_same names old new o h = ap (λ (b : Gathering). ended names b o) h
 
 -- ---- what a turn does, once the names have their item
 

@@ -1,10 +1,11 @@
 -- Names that are taken out of a list by a test of their spelling.
-use Rattle.std.proofs.Common.{◌≡◌, ℕ, ◌+◌, ◌<◌, ◌≤◌, Bool, true, false, not, if◌then◌else◌, cond, List, [], ◌∷◌, ◌++◌, length, get_or, drop, refl, sym, ap, ◌∙◌, append_assoc, append-nil}
+use Rattle.std.proofs.Common.{◌≡◌, ℕ, ◌+◌, ◌<◌, ◌≤◌, Bool, true, false, not, ◌||◌, if◌then◌else◌, cond, map, List, [], ◌∷◌, ◌++◌, length, get_or, drop, refl, sym, ap, ◌∙◌, append_assoc, append-nil}
 use Rattle.std.specs.List.{filter}
 use Rattle.std.specs.Cmp.Lexicographic.{bytes_decides}
 use Rattle.codon_base.specs.declared.value.Value.{Value}
 use Rattle.codon_base.specs.declared.value.Value.TheVariants.{Unset}
-use Rattle.meaning_rules.specs.State.{Spelling, same}
+use Rattle.meaning_rules.specs.State.{Spelling, Names, same, is_among, assigned_to, with_names_of}
+use Rattle.plain_interpreter.specs.Frames.{put_back}
 use Rattle.plain_interpreter.specs.Seen.{held_in}
 use Rattle.plain_interpreter.specs.declared.state.Entry.{Entry}
 use Rattle.plain_interpreter.proofs.Rest.{drop_next, drop_end}
@@ -95,3 +96,22 @@ module _ (q : Spelling → Bool) where
 
 pub others_held : (q : Spelling → Bool) (es : List Entry) (name : Spelling) → held_in (filter (λ e. not (q e.name)) es) name ≡ (if q name then Unset else held_in es name)
 others_held q es name = kept_held (λ n. not (q n)) es name ∙ either_turned (q name) (held_in es name) Unset
+
+-- ---- names that get back what they held
+
+pick_given : (b c d : Bool) (x y z : Value) → (c ≡ true → x ≡ y) → (c ≡ true → d ≡ true) → (d ≡ true → c ≡ true) → (if b then y else (if c then x else z)) ≡ (if d || b then y else z)
+pick_given true true true x y z e f g = refl
+pick_given false true true x y z e f g = e refl
+pick_given b true false x y z e f g = let wrong : false ≡ true = f refl in cc
+pick_given b false true x y z e f g = let wrong : false ≡ true = g refl in cc
+pick_given true false false x y z e f g = refl
+pick_given false false false x y z e f g = refl
+
+given_back : (own after : Names) (names : List Spelling) (name : Spelling) → put_back names (map own names) after name ≡ with_names_of own names after name
+given_back own after [] name = refl
+given_back own after (n ∷ names) name =
+    given_back own (assigned_to n (own n) after) names name
+    ∙ pick_given (is_among name names) (same n name) (same name n) (own n) (own name) (after name) (λ h. ap own ((bytes_decides n name).0 h)) (λ h. (bytes_decides name n).1 (sym ((bytes_decides n name).0 h))) (λ h. (bytes_decides n name).1 (sym ((bytes_decides name n).0 h)))
+
+pub as_before : (own : Names) (names : List Spelling) (after : Names) → put_back names (map own names) after ≡ with_names_of own names after
+as_before own names after = λ i name. given_back own after names name i

@@ -1,11 +1,17 @@
 -- Changes of the names of the body that runs, one by one.
 use Rattle.std.specs.Prelude.{List, [], ◌∷◌}
-use Rattle.meaning_rules.specs.State.{Names, State}
+use Rattle.codon_base.specs.declared.value.Value.{Value}
+use Rattle.meaning_rules.specs.State.{Spelling, Names, State, assigned_to}
 use Rattle.meaning_rules.specs.Outcome.{Outcome, Gives, Run, wrong}
 
 -- the state with other names
 abbrev pub with_names : Names → State → State
 with_names names s = record s { names = names }
+
+-- names with these values, in order
+abbrev pub put_back : List Spelling → List Value → Names → Names
+put_back (name ∷ more) (v ∷ vs) names = put_back more vs (assigned_to name v names)
+put_back _ _ names = names
 
 -- the state in which the names wait and others run
 abbrev pub waited : Names → State → State

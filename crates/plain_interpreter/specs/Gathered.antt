@@ -8,12 +8,12 @@ use Rattle.source_trees.specs.Names.{loop_names}
 use Rattle.meaning_rules.specs.State as meaning
 use Rattle.meaning_rules.specs.State.{Flow, Next}
 use Rattle.meaning_rules.specs.Outcome.{Outcome, Gives, Stops, Run, and_then}
-use Rattle.plain_interpreter.specs.Frames.{with_names}
+use Rattle.plain_interpreter.specs.Frames.{with_names, put_back}
 use Rattle.meaning_rules.specs.Program.{Scope, with_locals}
 use Rattle.meaning_rules.specs.Task.{Comprehension, Setting}
 use Rattle.meaning_rules.specs.Meaning.{turn_of}
 use Rattle.plain_interpreter.specs.Scopes.{scope_of}
-use Rattle.plain_interpreter.specs.Seen.{seen, names_of, why_of}
+use Rattle.plain_interpreter.specs.Seen.{seen, why_of}
 use Rattle.plain_interpreter.specs.Steps.{turns_from}
 use Rattle.plain_interpreter.specs.declared.comprehensions.Gathering.{Gathering}
 use Rattle.plain_interpreter.specs.declared.iterable.Cursor.{Cursor}
@@ -31,17 +31,17 @@ turns_of here scope names kept item list = turns_from here (turn_of here [] (Com
 abbrev pub filling : (Value → Cursor → Run Flow) → Gathering → Run Flow
 filling turns begun s = if begun.is_whole then Gives Next s else turns begun.list begun.cursor s
 
--- a comprehension whose loop was left: the names before it come back
-abbrev pub ends : Value → meaning.Names → Flow → Run Value
-ends list own flow t = Gives list (with_names own t)
+-- a comprehension whose loop was left: its names get back what they held before it
+abbrev pub ends : Value → List meaning.Spelling → List Value → Flow → Run Value
+ends list own before flow t = Gives list (with_names (put_back own before t.names) t)
 
-abbrev pub ended : Gathering → Outcome Flow → Outcome Value
-ended begun o = and_then o (ends begun.list (names_of begun.own))
+abbrev pub ended : LoopNames → Gathering → Outcome Flow → Outcome Value
+ended names begun o = and_then o (ends begun.list (loop_names names) begun.before.items)
 
 -- a comprehension has begun, which a part's answer holds
-abbrev pub TellsGathering : {B : Type 0} → (B → Gathering) → Outcome Value → (Value → Cursor → Run Flow) → Result B Stop → State → Type 0
-TellsGathering held outcome turns (Ok b) new = outcome ≡ ended (held b) (filling turns (held b) (seen new))
-TellsGathering held outcome turns (Err e) new = e ≢ stop.Memory → outcome ≡ Stops (why_of e) (seen new)
+abbrev pub TellsGathering : {B : Type 0} → LoopNames → (B → Gathering) → Outcome Value → (Value → Cursor → Run Flow) → Result B Stop → State → Type 0
+TellsGathering names held outcome turns (Ok b) new = outcome ≡ ended names (held b) (filling turns (held b) (seen new))
+TellsGathering names held outcome turns (Err e) new = e ≢ stop.Memory → outcome ≡ Stops (why_of e) (seen new)
 
 -- the names of comprehensions are those round a text, with the names of one more inside
 abbrev pub HasNames : List Inner → LoopNames → Place → Type 0

@@ -1,6 +1,6 @@
 #![tactic(auto, unfolding(meaning_rules::specs::Outcome::bind, meaning_rules::specs::Outcome::pure, meaning_rules::specs::Outcome::stop, meaning_rules::specs::Outcome::framed, meaning_rules::specs::Outcome::look))]
 
-ghost use Rattle.std.specs.Prelude.{◌≡◌, [], IfOk};
+ghost use Rattle.std.specs.Prelude.{◌≡◌, [], IfOk, OnOk, map};
 ghost use Rattle.meaning_rules.specs.Expressions as spec;
 ghost use Rattle.plain_interpreter.specs.Forms.{Comprehends, Gathers};
 ghost use Rattle.plain_interpreter.specs.Gathered.{HasNames, IsSame, TellsGathering, ended, filling, turns_of};
@@ -10,7 +10,9 @@ ghost use Rattle.meaning_rules.specs.Meaning.{condition_of, turn_of};
 ghost use Rattle.meaning_rules.specs.Objects as objects;
 ghost use Rattle.meaning_rules.specs.Outcome.{and_then};
 ghost use Rattle.plain_interpreter.specs.Scopes.{scope_of};
-ghost use Rattle.plain_interpreter.specs.Seen.{seen, names_of, Tells, TellsBy, TellsFlow};
+ghost use Rattle.plain_interpreter.specs.Seen.{seen, Tells, TellsBy, TellsFlow};
+ghost use Rattle.plain_interpreter.specs.Frames.{with_names, put_back};
+ghost use Rattle.source_trees.specs.Names.{loop_names};
 ghost use Rattle.meaning_rules.specs.State.{Next};
 ghost use Rattle.plain_interpreter.specs.Steps.{iterable_of};
 ghost use Rattle.meaning_rules.specs.Task.{Comprehension};
@@ -18,14 +20,13 @@ ghost use Rattle.plain_interpreter.specs.Tasks.{Nests, here};
 
 use crate::entering::step;
 use crate::flow::{End, Flow, ended};
-use crate::frames::swap_names;
 use crate::iterable::{Cursor, Iterable};
 use crate::objects::allocate;
 use crate::operations::truth;
 use crate::prepared::Prepared;
 use crate::runner::Runner;
 use crate::scope::{Inner, Scope, within};
-use crate::state::{Names, State, Stop};
+use crate::state::{State, Stop};
 use crate::task::{Consumer, Task};
 use crate::variables::{left, set_loop_names};
 use codon_base::{Memory, Object, Value};
@@ -33,38 +34,52 @@ use source_trees::{Expr, LoopNames};
 use sqlite_items::{Boxed, Items};
 use std::alloc::Global;
 
-/// The names that run, as they are.
+/// What the names of a comprehension hold before it.
 #[tactic(auto, unfolding(crate::specs::Seen::seen))]
-fn names_now(alloc: Global, state: &State) -> Result<Names, Memory>
-    ensures { IfOk result (λ own. names_of own ≡ (seen state.now).names) }
+fn held_now(alloc: Global, state: &State, names: &LoopNames) -> Result<Vec<Value>, Memory>
+    ensures { IfOk result (λ held. held.items ≡ map (seen state.now).names (loop_names names.now)) }
 {
-    let own = state.names.try_clone(alloc)?;
-    Ok(own)
+    state.names.held(alloc, names)
 }
 
-/// A comprehension that has begun: its names and those of the comprehensions round it, its list, the names before it, where its loop stands, and whether a generator has given all its items.
+/// Gives the names of a comprehension what they held before it.
+#[tactic(auto, unfolding(crate::specs::Seen::seen))]
+fn give_back(
+    alloc: Global,
+    state: &mut State,
+    names: &LoopNames,
+    before: Vec<Value>,
+) -> Result<(), Memory>
+    ensures { OnOk result (seen state.new ≡ with_names (put_back (loop_names names.now) before.items (seen state.old).names) (seen state.old)) }
+{
+    state.names.put_back(alloc, names, before)
+}
+
+/// A comprehension that has begun: its names and those of the comprehensions round it, its list, what its names held before it, where its loop stands, and whether a generator has given all its items.
 #[derive(Drop)]
 pub(crate) struct Gathering<'a> {
     all: Vec<Inner<'a>>,
     list: Value,
-    own: Names,
+    before: Vec<Value>,
     cursor: Cursor,
     is_whole: bool,
 }
 
-/// The list of a comprehension that was filled; the names before it come back.
+/// The list of a comprehension that was filled; its names get back what they held before it.
 #[inline(never)]
 fn finish(
     filled: Result<(), Stop>,
+    alloc: Global,
     state: &mut State,
+    names: &LoopNames,
     begun: Box<Gathering<'_>>,
 ) -> Result<Value, Stop>
-    ensures { (o : _) → TellsBy (λ _. Next) o filled state.old → Tells (ended begun.entry.value o) result state.new }
+    ensures { (o : _) → TellsBy (λ _. Next) o filled state.old → Tells (ended names.now begun.entry.value o) result state.new }
 {
     match filled {
         Ok(()) => {
             let begun = Box::into_inner(begun);
-            let _ = swap_names(state, begun.own);
+            give_back(alloc, state, names, begun.before)?;
             Ok(begun.list)
         }
         Err(why) => Err(why),
@@ -121,7 +136,9 @@ impl<
         )?;
         finish(
             self.fill(state, scope, e, names, item, condition, &mut begun),
+            self.alloc,
             state,
+            names,
             begun,
         )
     }
@@ -139,7 +156,7 @@ impl<
     ) -> Result<Box<Gathering<'a>>, Stop>
         requires { Nests self.now.program.now self.now.limit self.now.depth (F.pre self.now.low) (F.post self.now.low) }
         ensures inside { IfOk result (λ begun. HasNames begun.value.all.items names.now scope.now) }
-        ensures begun { (o : _) → TellsBy iterable_of o found.entry state.old → TellsGathering (λ begun. begun.value) (and_then o (λ goes_over. lists.comprehended_of (here self.now.program.now self.now.limit self.now.depth) (scope_of scope.now) names.now goes_over condition.now item.now)) (turns_of (here self.now.program.now self.now.limit self.now.depth) (scope_of scope.now) names.now condition.now item.now) result state.new }
+        ensures begun { (o : _) → TellsBy iterable_of o found.entry state.old → TellsGathering names.now (λ begun. begun.value) (and_then o (λ goes_over. lists.comprehended_of (here self.now.program.now self.now.limit self.now.depth) (scope_of scope.now) names.now goes_over condition.now item.now)) (turns_of (here self.now.program.now self.now.limit self.now.depth) (scope_of scope.now) names.now condition.now item.now) result state.new }
     {
         match found {
             Ok(goes_over) => self.gathering(state, scope, goes_over, names, item, condition),
@@ -160,7 +177,7 @@ impl<
     ) -> Result<Box<Gathering<'a>>, Stop>
         requires { Nests self.now.program.now self.now.limit self.now.depth (F.pre self.now.low) (F.post self.now.low) }
         ensures inside { IfOk result (λ begun. HasNames begun.value.all.items names.now scope.now) }
-        ensures begun { TellsGathering (λ begun. begun.value) (lists.comprehended_of (here self.now.program.now self.now.limit self.now.depth) (scope_of scope.now) names.now (iterable_of goes_over.entry) condition.now item.now (seen state.old)) (turns_of (here self.now.program.now self.now.limit self.now.depth) (scope_of scope.now) names.now condition.now item.now) result state.new }
+        ensures begun { TellsGathering names.now (λ begun. begun.value) (lists.comprehended_of (here self.now.program.now self.now.limit self.now.depth) (scope_of scope.now) names.now (iterable_of goes_over.entry) condition.now item.now (seen state.old)) (turns_of (here self.now.program.now self.now.limit self.now.depth) (scope_of scope.now) names.now condition.now item.now) result state.new }
     {
         let all = within(self.alloc, Inner { names }, scope.inner)?;
         let inner = Scope {
@@ -170,7 +187,7 @@ impl<
             in_prelude: scope.in_prelude,
         };
         let list = allocate(state, Object::List(Items::new(self.alloc)))?;
-        let own = names_now(self.alloc, state)?;
+        let before = held_now(self.alloc, state, names)?;
         let mut cursor = Cursor::Ended;
         let consumer = Consumer::Comprehension(inner, names, condition, item, &list);
         let flow = self.enter_loop(state, &[], consumer, goes_over, &mut cursor)?;
@@ -180,7 +197,7 @@ impl<
             Gathering {
                 all,
                 list,
-                own,
+                before,
                 cursor,
                 is_whole,
             },

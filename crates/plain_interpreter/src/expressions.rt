@@ -61,7 +61,7 @@ impl<
         match e {
             Expr::Name(_, name) => read_name(self.alloc, state, scope, name),
             Expr::Number(_, number) => number_value(state, number),
-            Expr::Text(_, text) => text_value(self.alloc, state, text),
+            Expr::Text(_, text) => text_value(state, text),
             Expr::True(_) => Ok(Value::Bool(true)),
             Expr::False(_) => Ok(Value::Bool(false)),
             Expr::None(_) => Ok(Value::Unit),

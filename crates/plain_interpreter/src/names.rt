@@ -1,12 +1,15 @@
-ghost use Rattle.std.specs.Prelude.{◌≡◌, ◌<◌, OnOk, OnErr, IfOk, IsTrue, IfSome, length, not};
+ghost use Rattle.std.specs.Prelude.{◌≡◌, ◌<◌, OnOk, OnErr, IfOk, IsTrue, IfSome, length, map, not};
 ghost use Rattle.std.specs.List.{filter, list_any, position};
 ghost use Rattle.meaning_rules.specs.State.{same, is_among, assigned_to, unset_names, with_names_of};
+ghost use Rattle.plain_interpreter.specs.Frames.{put_back};
 ghost use Rattle.plain_interpreter.specs.Seen.{names_of};
+ghost use Rattle.source_trees.specs.Names.{loop_names};
 
 use crate::state::{Entry, Names};
 use codon_base::{Memory, Spelling, Value};
+use source_trees::{LoopNames, Name};
 use std::alloc::Global;
-use std::mem;
+use std::{mem, slice};
 
 /// Whether two names are spelled alike.
 pub(crate) fn same(a: &Spelling, b: &Spelling) -> bool
@@ -29,15 +32,6 @@ impl Names {
         Names {
             entries: Vec::new(alloc),
         }
-    }
-
-    /// The same names with equal values.
-    #[tactic(auto, unfolding(crate::specs::Seen::names_of))]
-    pub(crate) fn try_clone(&self, alloc: Global) -> Result<Names, Memory>
-        ensures { IfOk result (λ names. names_of names ≡ names_of self.now) }
-    {
-        let entries = clone_entries(alloc, &self.entries)?;
-        Ok(Names { entries })
     }
 
     /// What a name holds, which is nothing where it was not assigned.
@@ -71,6 +65,37 @@ impl Names {
                 Ok(())
             }
         }
+    }
+
+    /// What the names of a loop hold.
+    pub(crate) fn held(&self, alloc: Global, own: &LoopNames) -> Result<Vec<Value>, Memory>
+        ensures { IfOk result (λ held. held.items ≡ map (names_of self.now) (loop_names own.now)) }
+    {
+        let mut held = Vec::new(alloc);
+        'own: for name in each_of(own) {
+            held.push(self.get(alloc, &name.spelling)?)?;
+        }
+        Ok(held)
+    }
+
+    /// Gives the names of a loop values, in order.
+    pub(crate) fn put_back(
+        &mut self,
+        alloc: Global,
+        own: &LoopNames,
+        values: Vec<Value>,
+    ) -> Result<(), Memory>
+        ensures { OnOk result (names_of self.new ≡ put_back (loop_names own.now) values.items (names_of self.old)) }
+    {
+        let mut rest = each_of(own);
+        'values: for value in values {
+            let [name, more @ ..] = rest else {
+                return Ok(());
+            };
+            self.assign(alloc, &name.spelling, value)?;
+            rest = more;
+        }
+        Ok(())
     }
 
     /// Takes out the names that are among some.
@@ -122,27 +147,19 @@ fn parted(
     Ok((inside, outside))
 }
 
+/// The names of a loop, in order.
+fn each_of(own: &LoopNames) -> &[Name]
+    ensures { map (λ name. name.spelling) result.now ≡ loop_names own.now }
+{
+    match own {
+        LoopNames::One(name) => slice::from_ref(name),
+        LoopNames::Several(all) => all.as_slice(),
+    }
+}
+
 fn place_of(entries: &[Entry], name: &Spelling) -> Option<usize>
     ensures place { result ≡ position (λ entry. same entry.name name.now) entries.now }
     ensures within { IfSome result (λ place. place < length entries.now) }
 {
     entries.iter().position(|entry| same(&entry.name, name))
-}
-
-fn clone_entry(alloc: Global, entry: &Entry) -> Result<Entry, Memory>
-    ensures { IfOk result (λ copy. copy ≡ entry.now) }
-{
-    let name = Spelling::from_slice(alloc, entry.name.as_slice())?;
-    let value = entry.value.try_clone(alloc)?;
-    Ok(Entry { name, value })
-}
-
-fn clone_entries(alloc: Global, entries: &[Entry]) -> Result<Vec<Entry>, Memory>
-    ensures { IfOk result (λ copy. copy.items ≡ entries.now) }
-{
-    let mut copy = Vec::new(alloc);
-    'entries: for entry in entries {
-        copy.push(clone_entry(alloc, entry)?)?;
-    }
-    Ok(copy)
 }

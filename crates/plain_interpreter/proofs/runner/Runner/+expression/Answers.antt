@@ -172,8 +172,8 @@ comprehended-returns g t c =
     let at = here c.args.self.now.program.now c.args.self.now.limit c.args.self.now.depth in
     let done = c.finish.ensures (filling (turns_of at (scope_of c.args.scope.now) c.args.names.now c.args.condition.now c.args.item.now) c.deref_mut.result.now (seen c.gathering_over.new.state)) c.fill.ensures.filled in
     subst (λ (o : Outcome Value). Tells o c.finish.result c.finish.new.state)
-    (ended_same c.deref_mut.result.now c.fill.new.begun (filling (turns_of at (scope_of c.args.scope.now) c.args.names.now c.args.condition.now c.args.item.now) c.deref_mut.result.now (seen c.gathering_over.new.state)) c.fill.ensures.same
-    ∙ ap (λ (b : Gathering). ended b (filling (turns_of at (scope_of c.args.scope.now) c.args.names.now c.args.condition.now c.args.item.now) b (seen c.gathering_over.new.state))) c.deref_mut.ensures.value
+    (ended_same c.args.names.now c.deref_mut.result.now c.fill.new.begun (filling (turns_of at (scope_of c.args.scope.now) c.args.names.now c.args.condition.now c.args.item.now) c.deref_mut.result.now (seen c.gathering_over.new.state)) c.fill.ensures.same
+    ∙ ap (λ (b : Gathering). ended c.args.names.now b (filling (turns_of at (scope_of c.args.scope.now) c.args.names.now c.args.condition.now c.args.item.now) b (seen c.gathering_over.new.state))) c.deref_mut.ensures.value
     ∙ sym (comprehension_found at (scope_of c.args.scope.now) c.args.names.now c.args.iterable.now c.get.result.now c.args.condition.now c.args.item.now (seen c.args.state.now) c.get.ensures ∙ c.in_ok-begun.ensures.begun (spec.iterable at (scope_of c.args.scope.now) c.get.result.now (seen c.args.state.now)) c.iterable.ensures))
     done
 

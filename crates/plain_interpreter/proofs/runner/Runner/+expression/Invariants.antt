@@ -39,7 +39,7 @@ invariant-fill-turns g l =
     let at = here l.self.program.now l.self.limit l.self.depth in
     let turn = turn_of at [] (Comprehension (scope_of l.inner) l.names l.condition l.item l.begun.1.1.0) in
     record {
-      same : record { all = l.begun.1.0; list = l.begun.1.1.0; own = l.begun.1.1.1.0; cursor = l.begun.1.1.1.1.0; is_whole = l.begun.1.1.1.1.1.0 } ≡ record l.fn.begun { cursor = l.begun.1.1.1.1.0 };
+      same : record { all = l.begun.1.0; list = l.begun.1.1.0; before = l.begun.1.1.1.0; cursor = l.begun.1.1.1.1.0; is_whole = l.begun.1.1.1.1.1.0 } ≡ record l.fn.begun { cursor = l.begun.1.1.1.1.0 };
       rest : filling (turns_of at (scope_of l.scope) l.names l.condition l.item) l.fn.begun (seen l.fn.state) ≡ turns (next_by in_place l.self.limit) turn (suc l.left) l.begun.1.1.1.1.0 (seen l.state);
     }
 
