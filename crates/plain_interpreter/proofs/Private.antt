@@ -4,7 +4,6 @@ use Rattle.std.specs.List.{filter}
 use Rattle.std.specs.Cmp.Lexicographic.{bytes_decides}
 use Rattle.codon_base.specs.declared.value.Value.{Value}
 use Rattle.codon_base.specs.declared.value.Value.TheVariants.{Unset}
-use Rattle.source_trees.specs.declared.node.Name.{Name}
 use Rattle.meaning_rules.specs.State.{Spelling, Names, same, is_among, assigned_to, with_names_of}
 use Rattle.plain_interpreter.specs.Frames.{put_back}
 use Rattle.plain_interpreter.specs.Seen.{held_in}
@@ -116,11 +115,3 @@ given_back own after (n ∷ names) name =
 
 pub as_before : (own : Names) (names : List Spelling) (after : Names) → put_back names (map own names) after ≡ with_names_of own names after
 as_before own names after = λ i name. given_back own after names name i
-
-pub put_none : (own : List Spelling) (names : Names) → put_back own [] names ≡ names
-put_none [] names = refl
-put_none (n ∷ own) names = refl
-
-pub put_one : (own more : List Name) (name : Name) (v : Value) (vs : List Value) (names after : Names) → own ≡ name ∷ more → after ≡ assigned_to name.spelling v names
-    → put_back (map (λ n. n.spelling) own) (v ∷ vs) names ≡ put_back (map (λ n. n.spelling) more) vs after
-put_one own more name v vs names after e f = ap (λ (l : List Name). put_back (map (λ n. n.spelling) l) (v ∷ vs) names) e ∙ ap (λ (ns : Names). put_back (map (λ n. n.spelling) more) vs ns) (sym f)
