@@ -129,7 +129,8 @@ impl<'a> Cursor<'a> {
         let value = value.try_clone(alloc)?;
         self.skip();
         let text = self.more_texts(value)?;
-        Ok(measured::text(node_at(first), text))
+        let tree = measured::text(alloc, node_at(first), text)?;
+        Ok(tree)
     }
 
     /// Whether the next token is a comma, or a name where one may follow.
