@@ -111,7 +111,7 @@ fn take_text(alloc: Global, cursor: &mut Cursor<'_>) -> Result<(Node, Text), Par
     let TokenKind::Text(value) = &first.kind else {
         return Err(ParseError::Refused(Cause::Unexpected));
     };
-    let value = value.try_clone(alloc)?;
+    let value = value.try_clone()?;
     cursor.skip();
     Ok((node_at(first), value))
 }

@@ -126,7 +126,7 @@ impl<'a> Cursor<'a> {
         let TokenKind::Text(value) = &first.kind else {
             return Err(ParseError::Refused(Cause::Unexpected));
         };
-        let value = value.try_clone(alloc)?;
+        let value = value.try_clone()?;
         self.skip();
         let text = self.more_texts(value)?;
         let tree = measured::text(alloc, node_at(first), text)?;
