@@ -9,8 +9,6 @@ mod function;
 mod law;
 mod mark;
 mod source;
-#[cfg(test)]
-mod tests;
 
 pub use block::{Blocks, read_statement};
 pub use law::{law_of_readers, law_of_sources, law_of_statements, law_of_texts, law_of_trees};

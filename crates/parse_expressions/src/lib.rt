@@ -21,8 +21,6 @@ mod read;
 mod reader;
 mod start;
 mod target;
-#[cfg(test)]
-mod tests;
 mod word;
 
 pub use annotation::read_type;

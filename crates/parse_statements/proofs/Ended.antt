@@ -61,8 +61,8 @@ pub row_value : (n : ℕ) (x : Expr) (s : List Expr) (m : Node) (ts rest : List 
 unfolding row_end
 row_value n x s m ts rest r seen q z =
     let whole : row_end readers n x s ts ≡ evaluate readers (is_value s) (tree.Tuple m Bare s) ts =
-        ap (λ b. cond b (assign readers n (several_targets (targets_of s)) ts) (evaluate readers (is_value s) (tree.Tuple (node_of x) Bare s) ts)) seen
-        ∙ ap (λ j. evaluate readers (is_value s) (tree.Tuple j Bare s) ts) q in
+    ap (λ b. cond b (assign readers n (several_targets (targets_of s)) ts) (evaluate readers (is_value s) (tree.Tuple (node_of x) Bare s) ts)) seen
+    ∙ ap (λ j. evaluate readers (is_value s) (tree.Tuple j Bare s) ts) q in
     subst (λ o. Reads o r rest) (sym whole) z
 
 pub row_targets : (n : ℕ) (x : Expr) (s : List Expr) (o : Option Targets) (ts rest : List Token) (r : Result Stmt ParseError) → sees is_equals ts ≡ true → o ≡ several_targets (targets_of s)
@@ -70,6 +70,6 @@ pub row_targets : (n : ℕ) (x : Expr) (s : List Expr) (o : Option Targets) (ts 
 unfolding row_end
 row_targets n x s o ts rest r seen q z =
     let whole : row_end readers n x s ts ≡ assign readers n o ts =
-        ap (λ b. cond b (assign readers n (several_targets (targets_of s)) ts) (evaluate readers (is_value s) (tree.Tuple (node_of x) Bare s) ts)) seen
-        ∙ ap (λ j. assign readers n j ts) (sym q) in
+    ap (λ b. cond b (assign readers n (several_targets (targets_of s)) ts) (evaluate readers (is_value s) (tree.Tuple (node_of x) Bare s) ts)) seen
+    ∙ ap (λ j. assign readers n j ts) (sym q) in
     subst (λ p. Reads p r rest) (sym whole) z

@@ -13,7 +13,8 @@ ghost use Rattle.parse_statements.specs.Code.{readers};
 use crate::operator::take_update;
 use crate::row::read_items;
 use crate::target::{
-    boxed_target, is_pointed, is_print, node_of_target, node_of_targets, one_target, several_targets,
+    boxed_target, is_pointed, is_print, node_of_target, node_of_targets, one_target,
+    several_targets,
 };
 use crate::token::{MOST_ITEMS, expect_word, sees_word};
 use parse_expressions::{Cursor, Measured, ParseError, node_at, read_expression, read_target};

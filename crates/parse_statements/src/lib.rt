@@ -14,8 +14,6 @@ mod row;
 mod simple;
 mod stage;
 mod target;
-#[cfg(test)]
-mod tests;
 mod token;
 
 pub use law::{law_of_lines, law_of_simple_statements};
