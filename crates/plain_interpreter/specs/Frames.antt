@@ -10,8 +10,9 @@ with_names names s = record s { names = names }
 
 -- names with these values, in order
 abbrev pub put_back : List Spelling → List Value → Names → Names
-put_back (name ∷ more) (v ∷ vs) names = put_back more vs (assigned_to name v names)
-put_back _ _ names = names
+put_back own [] names = names
+put_back [] (v ∷ vs) names = names
+put_back (name ∷ own) (v ∷ vs) names = put_back own vs (assigned_to name v names)
 
 -- the state in which the names wait and others run
 abbrev pub waited : Names → State → State

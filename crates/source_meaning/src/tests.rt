@@ -4,12 +4,15 @@ mod entry_ticks;
 mod expressions;
 mod functions;
 mod generators;
+mod heights;
+mod item_heights;
 mod lists;
 mod names;
 mod pipelines;
 mod regions;
 mod sharing;
 mod stack;
+mod statement_heights;
 mod statements;
 mod turn_ticks;
 

@@ -42,6 +42,11 @@ impl<'a, R: Abort> Trees<'a, R> {
     pub fn part(&self, e: Expr) -> Boxed<Expr> {
         Boxed::new(self.alloc, e).expect(self.rt, "memory")
     }
+
+    fn text_of(&self, text: &str) -> Text {
+        let text = Text::from_bytes(self.alloc, text.as_bytes()).expect(self.rt, "memory");
+        text.expect(self.rt, "ASCII")
+    }
 }
 
 /// Expressions.
@@ -55,8 +60,7 @@ impl<'a, R: Abort> Trees<'a, R> {
     }
 
     pub fn text(&self, text: &str) -> Expr {
-        let text = Text::from_bytes(self.alloc, text.as_bytes()).expect(self.rt, "memory");
-        Expr::Text(NODE, text.expect(self.rt, "ASCII"))
+        Expr::Text(NODE, self.text_of(text))
     }
 
     pub fn truth(&self, truth: bool) -> Expr {
@@ -69,6 +73,19 @@ impl<'a, R: Abort> Trees<'a, R> {
 
     pub fn none(&self) -> Expr {
         Expr::None(NODE)
+    }
+
+    pub fn bracketed(&self, inner: Expr) -> Expr {
+        Expr::Bracketed(NODE, self.part(inner))
+    }
+
+    /// `x` in so many pairs of brackets.
+    pub fn in_brackets(&self, pairs: u32) -> Expr {
+        let mut e = self.name("x");
+        'pairs: for _ in 0..pairs {
+            e = self.bracketed(e);
+        }
+        e
     }
 
     pub fn tuple<const N: usize>(&self, items: [Expr; N]) -> Expr {
@@ -276,6 +293,16 @@ impl<'a, R: Abort> Trees<'a, R> {
             chunk_size: None,
             schedule: None,
         };
+        self.par_with(options, names, iterable, body)
+    }
+
+    pub fn par_with<const N: usize>(
+        &self,
+        options: ParOptions,
+        names: LoopNames,
+        iterable: Expr,
+        body: [Stmt; N],
+    ) -> Stmt {
         Stmt::Par(NODE, options, self.loop_of(names, iterable, body))
     }
 }
@@ -298,37 +325,57 @@ pub fn print_stage(joint: Joint, printed: Printed) -> Stage {
     }
 }
 
+/// Types.
+impl<'a, R: Abort> Trees<'a, R> {
+    pub fn class_type(&self, name: &str) -> Annotation {
+        Annotation::Class(NODE, self.spelling(name))
+    }
+
+    pub fn list_type(&self, item: Annotation) -> Annotation {
+        Annotation::List(NODE, Boxed::new(self.alloc, item).expect(self.rt, "memory"))
+    }
+
+    pub fn tuple_type<const N: usize>(&self, items: [Annotation; N]) -> Annotation {
+        Annotation::Tuple(NODE, self.list_of(items))
+    }
+}
+
 /// Functions, classes and modules.
 impl<'a, R: Abort> Trees<'a, R> {
     pub fn param(&self, name: &str) -> Param {
-        Param {
-            node: NODE,
-            name: self.spelling(name),
-            annotation: None,
-            default: None,
-        }
+        self.param_with(name, None, None)
     }
 
     pub fn param_or(&self, name: &str, default: Expr) -> Param {
+        self.param_with(name, None, Some(default))
+    }
+
+    pub fn param_with(
+        &self,
+        name: &str,
+        annotation: Option<Annotation>,
+        default: Option<Expr>,
+    ) -> Param {
         Param {
             node: NODE,
             name: self.spelling(name),
-            annotation: None,
-            default: Some(default),
+            annotation,
+            default,
         }
     }
 
-    fn function_of<const N: usize, const M: usize>(
+    pub fn function_of<const N: usize, const M: usize>(
         &self,
         name: &str,
         params: [Param; N],
+        returned: Option<Annotation>,
         body: [Stmt; M],
     ) -> Function {
         Function {
             node: NODE,
             name: self.named(name),
             params: self.list_of(params),
-            result: None,
+            result: returned,
             body: self.list_of(body),
         }
     }
@@ -339,7 +386,7 @@ impl<'a, R: Abort> Trees<'a, R> {
         params: [Param; N],
         body: [Stmt; M],
     ) -> Item {
-        Item::Function(self.function_of(name, params, body))
+        Item::Function(self.function_of(name, params, None, body))
     }
 
     pub fn member<const N: usize, const M: usize>(
@@ -348,12 +395,17 @@ impl<'a, R: Abort> Trees<'a, R> {
         params: [Param; N],
         body: [Stmt; M],
     ) -> Member {
-        Member::Method(self.function_of(name, params, body))
+        Member::Method(self.function_of(name, params, None, body))
     }
 
     /// A field, by its name alone: no meaning depends on its annotation.
     pub fn int_field(&self, name: &str) -> Member {
         Member::Field(NODE, self.named(name), Annotation::Int(NODE))
+    }
+
+    /// A text on a line of its own in a class.
+    pub fn text_member(&self, text: &str) -> Member {
+        Member::Text(NODE, self.text_of(text))
     }
 
     pub fn class<const N: usize>(&self, name: &str, members: [Member; N]) -> Item {

@@ -165,6 +165,58 @@ fn a_comprehension_has_names_of_its_own(rt: HostRuntime) -> Result<(), Fail> {
 }
 
 #[test]
+fn names_are_after_a_comprehension_what_they_were_before(rt: HostRuntime) -> Result<(), Fail> {
+    let t = Trees {
+        rt: &rt,
+        alloc: rt.alloc(),
+    };
+    // def f(a, b, c):
+    //     ys = [a + b + c for a, b in [(1, 2), (3, 4)]]
+    //     zs = [([a for a in range(a)], a) for a in range(3)]
+    //     print(a, b, ys, zs)
+    // f(7, 8, 9)
+    let pairs = t.list([t.tuple([t.int(1), t.int(2)]), t.tuple([t.int(3), t.int(4)])]);
+    let sum = t.binary(
+        BinaryOp::Add,
+        t.binary(BinaryOp::Add, t.name("a"), t.name("b")),
+        t.name("c"),
+    );
+    let inner = t.each(t.name("a"), t.one("a"), t.call("range", [t.name("a")]));
+    expect(
+        &t,
+        t.module([
+            t.function(
+                "f",
+                [t.param("a"), t.param("b"), t.param("c")],
+                [
+                    t.set(
+                        t.to_name("ys"),
+                        t.each(sum, t.several([t.named("a"), t.named("b")]), pairs),
+                    ),
+                    t.set(
+                        t.to_name("zs"),
+                        t.each(
+                            t.tuple([inner, t.name("a")]),
+                            t.one("a"),
+                            t.call("range", [t.int(3)]),
+                        ),
+                    ),
+                    t.print([t.name("a"), t.name("b"), t.name("ys"), t.name("zs")]),
+                ],
+            ),
+            Item::Stmt(Stmt::Evaluate(NODE, t.call("f", [t.int(7), t.int(8), t.int(9)]))),
+        ]),
+        Case {
+            fuel: 1000000,
+            depth: 100,
+            out: b"7 8 [12, 16] [([], 0), ([0], 1), ([0, 1], 2)]\n",
+            end: Wanted::Done,
+        },
+    )?;
+    Ok(())
+}
+
+#[test]
 fn the_prelude_is_resolved_by_itself(rt: HostRuntime) -> Result<(), Fail> {
     let t = Trees {
         rt: &rt,

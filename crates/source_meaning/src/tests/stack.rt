@@ -37,7 +37,7 @@ enum Block {
 impl<'a, R: Abort> Trees<'a, R> {
     fn inside(&self, form: Nested, e: Expr) -> Expr {
         match form {
-            Nested::Bracket => Expr::Bracketed(NODE, self.part(e)),
+            Nested::Bracket => self.bracketed(e),
             Nested::Negation => self.not(e),
             Nested::Choice => self.conditional(e, self.truth(true), self.int(0)),
             Nested::Sum => self.binary(BinaryOp::Add, self.int(1), e),
@@ -58,7 +58,7 @@ impl<'a, R: Abort> Trees<'a, R> {
             Nested::Method => self.method(self.list([]), "append", [e]),
             Nested::Given => self.call("g", [e]),
             Nested::Chain => {
-                let part = Expr::Bracketed(NODE, self.part(e));
+                let part = self.bracketed(e);
                 self.compare(self.int(0), [than(Comparator::Less, part)])
             }
         }
