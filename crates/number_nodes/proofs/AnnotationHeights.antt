@@ -1,5 +1,5 @@
 -- A type is as high without its numbers as with them.
-use Rattle.std.proofs.Common.{◌≡◌, ℕ, List, [], ◌∷◌, map, Option, Some, None, refl, ap, sym, subst}
+use Rattle.std.proofs.Common.{◌≡◌, [], ◌∷◌, map, Option, Some, None, refl, ap, sym, subst}
 use Rattle.source_trees.specs.declared.item.Annotation.{Annotation, Annotation-F, roll-Annotation, map-Annotation, ind-Annotation}
 use Rattle.source_trees.specs.declared.item.Annotation.TheVariants as annotation
 use Rattle.source_trees.specs.Parts.{of_optional_annotation}

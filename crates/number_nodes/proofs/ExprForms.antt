@@ -1,5 +1,5 @@
 -- The forms of expressions have their numbers where their parts have.
-use Rattle.std.proofs.Common.{◌≡◌, ℕ, ℤ, List, [], ◌∷◌, ◌++◌, map, Option, Some, None, ap, sym, ◌∙◌}
+use Rattle.std.proofs.Common.{◌≡◌, ℕ, ℤ, List, ◌∷◌, Option, Some, None, ap, sym, ◌∙◌}
 use Rattle.std.specs.Option.{option_map}
 use Rattle.source_trees.specs.declared.operator.UnaryOp.{UnaryOp}
 use Rattle.source_trees.specs.declared.operator.BinaryOp.{BinaryOp}

@@ -15,7 +15,7 @@ use Rattle.source_trees.specs.declared.item.Item.TheVariants as item
 use Rattle.source_trees.specs.declared.item.Module.{Module as Source}
 use Rattle.source_trees.specs.Parts.{of_optional_annotation, of_optional_expr}
 use Rattle.source_trees.specs.Nodes.{before_parts, nodes_of_param, nodes_of_stmt}
-use Rattle.source_trees.specs.Bare.{bare, bare_name, bare_annotation, bare_optional, bare_function, bare_member, bare_class, bare_item, bare_module, bare_stmt}
+use Rattle.source_trees.specs.Bare.{bare, bare_name, bare_annotation, bare_function, bare_member, bare_class, bare_item, bare_module, bare_stmt}
 use Rattle.number_nodes.specs.Numbers.{NumbersNode, NumbersName, NumbersOptionalExpr, NumbersAnnotation, NumbersOptionalAnnotation, NumbersStmt, NumbersStmts, NumbersParam, NumbersParams, NumbersFunction, NumbersMember, NumbersMembers, NumbersClass, NumbersItem, NumbersItems}
 use Rattle.number_nodes.proofs.Taking.{takes, numbers_by, takes_none, takes_node, takes_both, takes_last, takes_parts}
 

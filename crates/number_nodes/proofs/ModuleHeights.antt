@@ -1,5 +1,5 @@
 -- A module is as high without its numbers as with them. So modules that differ in their numbers alone are equally high.
-use Rattle.std.proofs.Common.{◌≡◌, ◌+◌, List, ◌∷◌, ◌++◌, map, refl, ap, sym, ◌∙◌}
+use Rattle.std.proofs.Common.{◌≡◌, refl, ap, sym, ◌∙◌}
 use Rattle.source_trees.specs.declared.item.Param.{Param}
 use Rattle.source_trees.specs.declared.item.Function.{Function}
 use Rattle.source_trees.specs.declared.item.Member.{Member}
@@ -8,8 +8,7 @@ use Rattle.source_trees.specs.declared.item.Class.{Class}
 use Rattle.source_trees.specs.declared.item.Item.{Item}
 use Rattle.source_trees.specs.declared.item.Item.TheVariants as item
 use Rattle.source_trees.specs.declared.item.Module.{Module as Source}
-use Rattle.source_trees.specs.Parts.{of_optional_annotation, of_optional_expr}
-use Rattle.source_trees.specs.Heights.{over_parts, highest, height_of_stmt, height_of_param, height_of_function, height_of_member, height_of_class, height_of_item, height_of}
+use Rattle.source_trees.specs.Heights.{highest, height_of_stmt, height_of_param, height_of_function, height_of_member, height_of_class, height_of_item, height_of}
 use Rattle.source_trees.specs.Bare.{bare_stmt, bare_param, bare_function, bare_member, bare_class, bare_item, bare_module}
 use Rattle.number_nodes.proofs.ExprHeights.{all_high, optional_expr_high}
 use Rattle.number_nodes.proofs.AnnotationHeights.{annotation_high, optional_annotation_high}

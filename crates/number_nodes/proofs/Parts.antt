@@ -19,6 +19,6 @@ pub its_pair : {A B E : Type 0} {one : Result A E} {two : Result B E} {r : Resul
 its_pair {A} {B} {E} {one} {two} {r} {pair} h is = IfOk-at_ok (λ both. (one ≡ Ok both.0) × (two ≡ Ok both.1)) is h
 
 -- a node of this form
-pub of_form : {A E : Type 0} (bare_part : A → A) (nodes : A → List Node) {first next : ℕ} {old form : A} {r : Result A E}
+pub of_form : {A E : Type 0} (bare_part : A → A) (nodes : A → List Node) (first next : ℕ) (r : Result A E) {old form : A}
     → old ≡ form → IfOk r (λ numbered. Numbers bare_part nodes first form numbered next) → IfOk r (λ numbered. Numbers bare_part nodes first old numbered next)
-of_form {A} {E} bare_part nodes {first} {next} {old} {form} {r} is h = subst (λ (part : A). IfOk r (λ numbered. Numbers bare_part nodes first part numbered next)) (sym is) h
+of_form {A} {E} bare_part nodes first next r {old} {form} is h = subst (λ (part : A). IfOk r (λ numbered. Numbers bare_part nodes first part numbered next)) (sym is) h

@@ -1,8 +1,8 @@
 -- The parts of a list that have their numbers, while those after them wait in turned order.
-use Rattle.std.proofs.Common.{◌≡◌, ℕ, ◌+◌, List, [], ◌∷◌, ◌++◌, map, reverse, length, refl, ap, sym, ◌∙◌, subst, append_assoc, arith}
+use Rattle.std.proofs.Common.{◌≡◌, ℕ, List, [], ◌∷◌, ◌++◌, map, reverse, refl, ap, sym, ◌∙◌, subst, append_assoc, arith}
 use Rattle.std.proofs.lemmas.List.{append-nil, map-append, reverse-append, reverse-reverse}
 use Rattle.source_trees.specs.declared.node.Node.{Node}
-use Rattle.source_trees.specs.Nodes.{AreNumberedFrom, joined}
+use Rattle.source_trees.specs.Nodes.{joined}
 use Rattle.number_nodes.specs.Numbers.{Numbers, NumbersAll}
 use Rattle.number_nodes.proofs.Taking.{takes, numbers_by, takes_both, takes_same}
 

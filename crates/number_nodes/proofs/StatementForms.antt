@@ -1,5 +1,5 @@
 -- The forms of statements have their numbers where their parts have.
-use Rattle.std.proofs.Common.{◌≡◌, ℕ, List, [], ◌∷◌, ◌++◌, map, Option, ap, sym, ◌∙◌}
+use Rattle.std.proofs.Common.{◌≡◌, ℕ, List, ◌∷◌, map, Option, ap, ◌∙◌}
 use Rattle.std.specs.List.{flat_map}
 use Rattle.source_trees.specs.declared.operator.BinaryOp.{BinaryOp}
 use Rattle.source_trees.specs.declared.node.Node.{Node}

@@ -1,6 +1,5 @@
 -- A statement is as high without its numbers as with them.
-use Rattle.std.proofs.Common.{◌≡◌, ℕ, ◌+◌, List, [], ◌∷◌, ◌++◌, map, refl, ap, sym, subst}
-use Rattle.std.specs.List.{flat_map}
+use Rattle.std.proofs.Common.{◌≡◌, ℕ, ◌+◌, List, map, refl, ap, sym, subst}
 use Rattle.source_trees.specs.declared.expression.Expr.{Expr}
 use Rattle.source_trees.specs.declared.statement.Target.{Target}
 use Rattle.source_trees.specs.declared.statement.Target.TheVariants as target
@@ -18,7 +17,7 @@ use Rattle.source_trees.specs.declared.pipeline.Printed.{Printed}
 use Rattle.source_trees.specs.declared.pipeline.StageForm.{StageForm}
 use Rattle.source_trees.specs.declared.pipeline.StageForm.TheVariants as form
 use Rattle.source_trees.specs.declared.pipeline.Stage.{Stage}
-use Rattle.source_trees.specs.Parts.{of_exprs, of_print_options, of_printed, of_stage_form, of_arm}
+use Rattle.source_trees.specs.Parts.{of_print_options, of_printed, of_stage_form, of_arm}
 use Rattle.source_trees.specs.Heights.{over_parts, highest, height_of_expr, height_of_target, height_of_targets, height_of_stage, height_of_stmt, height_of_for}
 use Rattle.source_trees.specs.Bare.{bare, bare_name, bare_loop_names, bare_expr, bare_optional, bare_annotation, bare_target, bare_targets, bare_print_options, bare_printed, bare_stage_form, bare_stage, bare_stmt, bare_arm, bare_for}
 use Rattle.source_trees.proofs.Equations as parts

@@ -8,7 +8,7 @@ use Rattle.source_trees.specs.declared.node.Node.{Node}
 use Rattle.source_trees.specs.declared.expression.Expr.{Expr}
 use Rattle.source_trees.specs.declared.statement.Arm.{Arm}
 use Rattle.source_trees.specs.Parts.{optional, of_arm}
-use Rattle.source_trees.specs.Nodes.{AreNumberedFrom, numbers_from, joined, before_parts, nodes_of_expr, nodes_of_arm}
+use Rattle.source_trees.specs.Nodes.{AreNumberedFrom, joined, before_parts, nodes_of_expr, nodes_of_arm}
 use Rattle.number_nodes.specs.Numbers.{Numbers, NumbersNode, nodes_of_optional_expr}
 
 pub record Takes (first : ℕ) (nodes : List Node) (next : ℕ) : Type 0 where

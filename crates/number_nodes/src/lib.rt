@@ -14,6 +14,3 @@ mod turned;
 
 pub use item::number_nodes;
 pub use law::height_stays;
-
-#[cfg(test)]
-mod tests;

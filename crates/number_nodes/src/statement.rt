@@ -31,12 +31,7 @@ fn number_return(
 }
 
 /// `yield value`
-fn number_yield(
-    alloc: Global,
-    next: &mut u64,
-    node: Node,
-    value: Expr,
-) -> Result<Stmt, Memory>
+fn number_yield(alloc: Global, next: &mut u64, node: Node, value: Expr) -> Result<Stmt, Memory>
     ensures { IfOk result (λ numbered. NumbersStmt next.old (Stmt.Yield node value) numbered next.new) }
 {
     let node = number_node(next, node);
@@ -140,12 +135,7 @@ fn number_update(
 }
 
 /// An expression whose value is dropped.
-fn number_evaluate(
-    alloc: Global,
-    next: &mut u64,
-    node: Node,
-    value: Expr,
-) -> Result<Stmt, Memory>
+fn number_evaluate(alloc: Global, next: &mut u64, node: Node, value: Expr) -> Result<Stmt, Memory>
     ensures { IfOk result (λ numbered. NumbersStmt next.old (Stmt.Evaluate node value) numbered next.new) }
 {
     let node = number_node(next, node);
@@ -155,12 +145,7 @@ fn number_evaluate(
 }
 
 /// `print(..)`
-fn number_print(
-    alloc: Global,
-    next: &mut u64,
-    node: Node,
-    printed: Printed,
-) -> Result<Stmt, Memory>
+fn number_print(alloc: Global, next: &mut u64, node: Node, printed: Printed) -> Result<Stmt, Memory>
     ensures { IfOk result (λ numbered. NumbersStmt next.old (Stmt.Print node printed) numbered next.new) }
 {
     let node = number_node(next, node);
@@ -199,9 +184,13 @@ pub(crate) fn number_stmt(alloc: Global, next: &mut u64, stmt: Stmt) -> Result<S
         Stmt::Yield(node, value) => number_yield(alloc, next, node, value),
         Stmt::Raise(node, name, text) => number_raise(alloc, next, node, name, text),
         Stmt::Assert(node, condition, text) => number_assert(alloc, next, node, condition, text),
-        Stmt::Annotated(node, name, annotation, value) => number_annotated(alloc, next, node, name, annotation, value),
+        Stmt::Annotated(node, name, annotation, value) => number_annotated(
+            alloc, next, node, name, annotation, value,
+        ),
         Stmt::Assign(node, targets, value) => number_assign(alloc, next, node, targets, value),
-        Stmt::Update(node, target, op, value) => number_update(alloc, next, node, target, op, value),
+        Stmt::Update(node, target, op, value) => number_update(
+            alloc, next, node, target, op, value,
+        ),
         Stmt::Evaluate(node, value) => number_evaluate(alloc, next, node, value),
         Stmt::Print(node, printed) => number_print(alloc, next, node, printed),
         Stmt::Pipeline(node, head, stages) => number_pipeline(alloc, next, node, head, stages),

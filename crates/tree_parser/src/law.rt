@@ -1,4 +1,4 @@
-ghost use Rattle.std.specs.Prelude.{◌≡◌, ℕ, List, ◌⊎◌};
+ghost use Rattle.std.specs.Prelude.{◌≡◌, ℕ, ◌<◌, ◌^◌, List, length, ◌⊎◌};
 ghost use Rattle.indent_lexer.specs.declared.token.Token.{Token};
 ghost use Rattle.indent_lexer.specs.Tokens.{Tokens};
 ghost use Rattle.source_trees.specs.declared.item.Module.{Module};
@@ -15,7 +15,8 @@ pub fn law_of_parsing()
     ensures one_place { (ts : List Token) (p q : ParseRefusal) → IsParsePlace ts p → IsParsePlace ts q → p ≡ q }
 {}
 
-/// The tokens of a text hold its end, which is what `parse` asks of them.
+/// The tokens of a text hold its end and are fewer than 2^30, which is all that `parse` asks of them.
 pub fn law_of_lexed_tokens()
-    ensures { (b : List ℕ) (ts : List Token) → Tokens b ts → HoldsEnd ts }
+    ensures holds_end { (b : List ℕ) (ts : List Token) → Tokens b ts → HoldsEnd ts }
+    ensures few { (b : List ℕ) (ts : List Token) → Tokens b ts → length ts < 2 ^ 30 }
 {}

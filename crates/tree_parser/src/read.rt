@@ -1,4 +1,4 @@
-ghost use Rattle.std.specs.Prelude.{◌≡◌, ◌<◌, length, IfOk, IfErr};
+ghost use Rattle.std.specs.Prelude.{◌<◌, ◌^◌, length, IfOk, IfErr};
 ghost use Rattle.grammar_rules.specs.Modules.{Tree};
 ghost use Rattle.parse_blocks.specs.Answers.{HoldsEnd, IsPlaceOf};
 

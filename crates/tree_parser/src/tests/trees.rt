@@ -1,4 +1,4 @@
-//! Sources and their trees, as CPython has them. `scripts/compare_trees.py` makes the trees anew.
+//! Sources and their trees, as CPython's `ast` has them.
 //!
 //! A row is two lines: the source, in which `⏎` is a line end, and its tree in the short form, with a blank before it.
 

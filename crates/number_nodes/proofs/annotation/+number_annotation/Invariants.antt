@@ -1,4 +1,4 @@
-use Rattle.std.proofs.Common.{◌≡◌, ◌≤◌, length}
+use Rattle.std.proofs.Common.{length}
 use Rattle.source_trees.specs.Bare.{bare_annotation}
 use Rattle.source_trees.specs.Nodes.{nodes_of_annotation}
 use Rattle.number_nodes.proofs.Reaching.{Reaches}

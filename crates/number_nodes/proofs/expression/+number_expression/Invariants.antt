@@ -1,4 +1,4 @@
-use Rattle.std.proofs.Common.{◌≡◌, length}
+use Rattle.std.proofs.Common.{length}
 use Rattle.source_trees.specs.Bare.{bare_expr, bare_comparison}
 use Rattle.source_trees.specs.Nodes.{nodes_of_expr}
 use Rattle.number_nodes.specs.Numbers.{nodes_of_comparison}

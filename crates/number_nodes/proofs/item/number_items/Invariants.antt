@@ -1,4 +1,4 @@
-use Rattle.std.proofs.Common.{◌≡◌, length}
+use Rattle.std.proofs.Common.{length}
 use Rattle.source_trees.specs.Bare.{bare_item}
 use Rattle.source_trees.specs.Nodes.{nodes_of_item}
 use Rattle.number_nodes.proofs.Reaching.{Reaches}

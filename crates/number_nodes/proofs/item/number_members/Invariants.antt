@@ -1,4 +1,4 @@
-use Rattle.std.proofs.Common.{◌≡◌, length}
+use Rattle.std.proofs.Common.{length}
 use Rattle.source_trees.specs.Bare.{bare_member}
 use Rattle.source_trees.specs.Nodes.{nodes_of_member}
 use Rattle.number_nodes.proofs.Reaching.{Reaches}

@@ -5,5 +5,5 @@ use Rattle.number_nodes.proofs.pipeline.number_end_sep.Goals as goal
 
 pub returns : goal.returns
 returns c =
-    let pair = c.in_ok-both.ensures in
+    let pair = c.in_ok-end_text.ensures in
     form.options_EndSep refl (its_part c.number_expr-end_text.ensures pair.0) (its_part c.number_expr-sep.ensures pair.1)

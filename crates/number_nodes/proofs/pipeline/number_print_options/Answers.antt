@@ -14,7 +14,7 @@ pub returns-in_ok-number_expr-in-End : goal.returns-in_ok-number_expr-in-End
 returns-in_ok-number_expr-in-End c = form.options_End c.in-End.is c.in_ok-number_expr-in-End.ensures
 
 pub returns-in-SepEnd : goal.returns-in-SepEnd
-returns-in-SepEnd c = of_form bare_print_options nodes_of_print_options c.in-SepEnd.is c.number_sep_end.ensures
+returns-in-SepEnd c = of_form bare_print_options nodes_of_print_options _ _ _ c.in-SepEnd.is c.number_sep_end.ensures
 
 pub returns-in-EndSep : goal.returns-in-EndSep
-returns-in-EndSep c = of_form bare_print_options nodes_of_print_options c.in-EndSep.is c.number_end_sep.ensures
+returns-in-EndSep c = of_form bare_print_options nodes_of_print_options _ _ _ c.in-EndSep.is c.number_end_sep.ensures

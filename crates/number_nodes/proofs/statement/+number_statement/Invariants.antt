@@ -1,4 +1,4 @@
-use Rattle.std.proofs.Common.{◌≡◌, length}
+use Rattle.std.proofs.Common.{length}
 use Rattle.source_trees.specs.Bare.{bare_stmt, bare_arm}
 use Rattle.source_trees.specs.Nodes.{nodes_of_stmt, nodes_of_arm}
 use Rattle.number_nodes.proofs.Reaching.{Reaches}

@@ -1,4 +1,4 @@
-use Rattle.std.proofs.Common.{◌≡◌, length}
+use Rattle.std.proofs.Common.{length}
 use Rattle.source_trees.specs.Bare.{bare_name}
 use Rattle.number_nodes.specs.Numbers.{nodes_of_name}
 use Rattle.number_nodes.proofs.Reaching.{Reaches}

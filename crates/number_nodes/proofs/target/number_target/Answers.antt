@@ -8,7 +8,7 @@ pub returns-in_ok-number_node-in-Name : goal.returns-in_ok-number_node-in-Name
 returns-in_ok-number_node-in-Name c = form.target_Name c.in-Name.is c.in_ok-number_node-in-Name.ensures
 
 pub returns-in-Index : goal.returns-in-Index
-returns-in-Index c = of_form bare_target nodes_of_target c.in-Index.is c.number_place.ensures
+returns-in-Index c = of_form bare_target nodes_of_target _ _ _ c.in-Index.is c.number_place.ensures
 
 pub returns-in-Field : goal.returns-in-Field
-returns-in-Field c = of_form bare_target nodes_of_target c.in-Field.is c.number_field.ensures
+returns-in-Field c = of_form bare_target nodes_of_target _ _ _ c.in-Field.is c.number_field.ensures
