@@ -1,7 +1,10 @@
 use super::{FEW, Wrong, tree_of};
-use crate::{ParseKind, parse};
+use crate::{ParseKind, ParseRefusal, parse};
 use codon_base::Or;
 use indent_lexer::lex;
+use source_trees::Module;
+use std::alloc::Global;
+use std::process::Abort;
 use std::test::Fail;
 
 #[test]
@@ -20,28 +23,45 @@ fn one_call_of_each_kind(rt: HostRuntime) -> Result<(), Fail> {
     Ok(())
 }
 
-/// A list may go on after the end of its text: the token after it is refused, and only where none before it is.
-#[test]
-#[tactic(auto, using(crate::proofs::Parsed::more_hold_end))]
-fn tokens_after_the_end(rt: HostRuntime) -> Result<(), Fail> {
-    let alloc = rt.alloc();
-    for (text, token, line) in [
-        (b"\nx\n".as_slice(), 3u32, 1u32),
-        (b"".as_slice(), 1, 1),
-        (b"\n\nx =\n".as_slice(), 2, 3),
-    ] {
-        let mut tokens = lex(alloc, text).ok().expect(&rt, "tokens");
-        let more = lex(alloc, b"if y: z\n").ok().expect(&rt, "tokens");
-        tokens.append(more)?;
-        assert!(rt; tokens.len() < FEW);
-        match parse(alloc, &tokens) {
-            Err(Or::No(refusal)) => {
-                assert_eq!(rt; refusal.token, token);
-                assert_eq!(rt; refusal.at.line, line);
-                assert!(rt; refusal.kind == ParseKind::Unexpected);
+/// What `parse` answers for the tokens of a text with those of another after them.
+fn parsed_with_more(
+    alloc: Global,
+    text: &str,
+    more: &str,
+) -> Option<Result<Module, Or<ParseRefusal>>> {
+    let Ok(mut tokens) = lex(alloc, text.as_bytes()) else {
+        return None;
+    };
+    let Ok(more) = lex(alloc, more.as_bytes()) else {
+        return None;
+    };
+    match tokens.append(more) {
+        Err(_) => None,
+        Ok(()) => {
+            if tokens.len() >= FEW {
+                return None;
             }
-            _ => assert!(rt; false),
+            Some(parse(alloc, &tokens))
         }
     }
-    Ok(())
+}
+
+fn expect_refusal(rt: &impl Abort, alloc: Global, text: &str, token: u32, line: u32) {
+    match parsed_with_more(alloc, text, "if y: z\n").expect(rt, "tokens") {
+        Err(Or::No(refusal)) => {
+            assert_eq!(rt; refusal.token, token);
+            assert_eq!(rt; refusal.at.line, line);
+            assert!(rt; refusal.kind == ParseKind::Unexpected);
+        }
+        _ => assert!(rt; false),
+    }
+}
+
+/// A list may go on after the end of its text: the token after it is refused, and only where none before it is.
+#[test]
+fn tokens_after_the_end(rt: HostRuntime) {
+    let alloc = rt.alloc();
+    expect_refusal(&rt, alloc, "\nx\n", 3, 1);
+    expect_refusal(&rt, alloc, "", 1, 1);
+    expect_refusal(&rt, alloc, "\n\nx =\n", 2, 3);
 }

@@ -253,12 +253,12 @@ pub(super) fn body(out: &mut Out, depth: u32, stmts: &Items<Stmt>) -> Result<(),
 
 #[cycle(print_statement)]
 fn arms(out: &mut Out, depth: u32, several: &Items<Arm>) -> Result<(), AllocError> {
-    let mut begin = "if ";
+    let mut is_first = true;
     'arms: for each in several.as_slice() {
         indent(out, depth)?;
-        word(out, begin)?;
+        word(out, if is_first { "if " } else { "elif " })?;
         arm(out, depth, each)?;
-        begin = "elif ";
+        is_first = false;
     }
     Ok(())
 }

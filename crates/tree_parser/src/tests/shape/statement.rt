@@ -117,6 +117,17 @@ impl Shape {
         }
     }
 
+    /// The closing bracket of a choice, and those of the arms that stand in an `else`.
+    fn close_branches(&mut self, opened: u32) -> Result<(), AllocError> {
+        if !self.whole {
+            'opened: for _ in 0..opened {
+                self.close()?;
+                self.close()?;
+            }
+        }
+        self.close()
+    }
+
     /// A statement without blocks, up to its closing bracket.
     fn simple_statement(&mut self, stmt: &Stmt) -> Result<(), AllocError> {
         match stmt {
@@ -181,7 +192,11 @@ impl Shape {
             Stmt::If(node, arms, otherwise) => {
                 self.group("branch")?;
                 self.number(*node)?;
-                self.arms(arms.as_slice(), otherwise)
+                let opened = self.arms(arms)?;
+                if !otherwise.is_empty() {
+                    self.body("else", otherwise)?;
+                }
+                self.close_branches(opened)
             }
             Stmt::While(node, condition, body) => {
                 self.open("while", *node)?;
@@ -212,12 +227,12 @@ impl Shape {
         self.close()
     }
 
-    /// The arms and what follows them, up to the closing bracket. In the short form each arm after the first stands in an `else`.
+    /// The arms. In the short form each after the first stands in an `else`, which is left open; how many are is the answer.
     #[cycle(shape_statement)]
-    fn arms(&mut self, arms: &[Arm], otherwise: &Items<Stmt>) -> Result<(), AllocError> {
+    fn arms(&mut self, arms: &Items<Arm>) -> Result<u32, AllocError> {
         let mut opened = 0u32;
         let mut first = true;
-        'arms: for arm in arms {
+        'arms: for arm in arms.as_slice() {
             if !first {
                 self.group(if self.whole { "elif" } else { "else (branch" })?;
                 opened = opened.saturating_add(1);
@@ -228,16 +243,7 @@ impl Shape {
                 self.close()?;
             }
         }
-        if !otherwise.is_empty() {
-            self.body("else", otherwise)?;
-        }
-        if !self.whole {
-            'opened: for _ in 0..opened {
-                self.close()?;
-                self.close()?;
-            }
-        }
-        self.close()
+        Ok(opened)
     }
 
     #[cycle(shape_statement)]
