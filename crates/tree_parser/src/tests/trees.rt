@@ -1,6 +1,7 @@
 //! Sources and their trees, as CPython's `ast` has them.
 //!
-//! A row is two lines: the source, in which `⏎` is a line end, and its tree in the short form, with a blank before it.
+//! A row is two lines: the source, in which `⏎` is a line end, and its tree in the short form, with a blank before it. `scripts/compare_trees.py`
+//! makes the trees anew.
 
 mod atoms;
 mod blocks;
