@@ -35,7 +35,7 @@ use Rattle.parse_statements.specs.Simple.{is_colon}
 use Rattle.parse_statements.proofs.Tails.{type_token, type_tree, least_type, type_low}
 use Rattle.parse_blocks.specs.Functions as reading
 use Rattle.parse_blocks.specs.Functions.{is_def, is_class, is_pass, class_of_members, takes_field, may_join, starts_member, members_on}
-use Rattle.parse_blocks.proofs.Blocks.{pass_token, colon_token, newline_token, indent_token, dedent_token}
+use Rattle.parse_blocks.proofs.BlockLaw.{pass_token, colon_token, newline_token, indent_token, dedent_token}
 use Rattle.parse_blocks.proofs.Functions.{LowFunction, function_opens, function_law, x_name}
 use Rattle.parse_blocks.proofs.Marks.{not_it, not_both}
 

@@ -43,7 +43,7 @@ use Rattle.parse_statements.proofs.Many.{Follows, many_law}
 use Rattle.parse_statements.proofs.Options.{par_options_law}
 use Rattle.parse_blocks.specs.Blocks as reading
 use Rattle.parse_blocks.specs.Blocks.{is_elif, is_while, is_at, is_par, starts_stmt, stmt_on, arm_of}
-use Rattle.parse_blocks.proofs.Blocks.{pass_tree, pass_block, least_block, pass_low, newline_token, block_opens, StmtLaw, block_law, conditioned_some, conditioned_law}
+use Rattle.parse_blocks.proofs.BlockLaw.{pass_tree, pass_block, least_block, pass_low, newline_token, block_opens, StmtLaw, block_law, conditioned_some, conditioned_law}
 use Rattle.parse_blocks.proofs.Heights.{LowBody, LowArm, if_low, low_if, while_low, low_while, LowFor, for_low, low_for, par_height}
 use Rattle.parse_blocks.proofs.Marks.{else_on, else_no_elif, on_elif, colon_items, in_names, newline_bracket}
 

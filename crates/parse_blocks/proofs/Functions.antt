@@ -47,7 +47,7 @@ use Rattle.parse_statements.proofs.Tails.{type_token, type_tree, least_type, typ
 use Rattle.parse_blocks.specs.Blocks.{block}
 use Rattle.parse_blocks.specs.Functions as reading
 use Rattle.parse_blocks.specs.Functions.{is_def, param_of, function_of}
-use Rattle.parse_blocks.proofs.Blocks.{pass_tree, pass_block, least_block, pass_low, block_opens}
+use Rattle.parse_blocks.proofs.BlockLaw.{pass_tree, pass_block, least_block, pass_low, block_opens}
 use Rattle.parse_blocks.proofs.Heights.{LowBody, body_up, body_down}
 use Rattle.parse_blocks.proofs.Marks.{not_it, not_both, false_not, neither}
 use Rattle.parse_blocks.proofs.Statements.{whole_block_law}

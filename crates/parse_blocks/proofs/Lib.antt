@@ -1,7 +1,7 @@
 pub mod Gather
 pub mod Marks
 pub mod Heights
-pub mod Blocks
+pub mod BlockLaw
 pub mod Compounds
 pub mod Statements
 pub mod Functions
@@ -12,3 +12,9 @@ pub mod Places
 pub mod Trees
 pub mod Texts
 pub mod Whole
+pub mod Levels
+pub mod Lower
+pub mod Reversed
+pub mod ExactReaders
+pub mod Answered
+pub mod Counted

@@ -23,7 +23,7 @@ use Rattle.parse_statements.specs.Readers.{Readers, Exact, LowStmts}
 use Rattle.parse_statements.proofs.Lines.{line_law}
 use Rattle.parse_blocks.specs.Blocks as reading
 use Rattle.parse_blocks.specs.Blocks.{is_while, is_at, starts_stmt, stmt_on, stmts_on, Level}
-use Rattle.parse_blocks.proofs.Blocks.{line_opens, StmtLaw, any_conditioned, stmts_law, block_law}
+use Rattle.parse_blocks.proofs.BlockLaw.{line_opens, StmtLaw, any_conditioned, stmts_law, block_law}
 use Rattle.parse_blocks.proofs.Compounds.{BranchOf, BranchRest, branch_ends, branch_fits, RepeatOf, RepeatRest, repeat_ends, repeat_fits, for_opens, for_text, least_for, least_for_tree, ParOf, par_tree, par_text, least_par, for_token, branch_law, repetition_law, for_law, parallel_law}
 use Rattle.parse_blocks.proofs.Heights.{LowBody, LowFor, low_for, loop_height, par_height, stmts_body, body_stmts}
 use Rattle.parse_blocks.proofs.Marks.{simple_no_if, simple_no_while, simple_no_for, simple_no_at, simple_stmt, if_stmt, while_stmt, for_stmt, at_stmt, while_no_if, for_no_if, for_no_while, at_no_if, at_no_while, at_no_for}

@@ -15,7 +15,7 @@ use Rattle.indent_lexer.proofs.OneReading.{lists}
 use Rattle.source_trees.specs.declared.item.Module.{Module}
 use Rattle.grammar_rules.specs.Modules.{Tree, Source}
 use Rattle.parse_statements.specs.Readers.{Readers, Exact}
-use Rattle.parse_blocks.specs.Answers.{IsText, HasPlace, HasSource}
+use Rattle.parse_blocks.specs.Answers.{IsText, HoldsEnd, HasPlace, HasSource}
 use Rattle.parse_blocks.proofs.Trees.{decided_tree, only_tree}
 
 -- ---- the last tokens
@@ -80,6 +80,10 @@ lexed _ _ _ (goes s text out t len more h rest) = longer_text out more (lexed t 
 pub tokens_text : (b : List ℕ) (ts : List Token) → Tokens b ts → IsText ts
 tokens_text b ts k = lexed _ _ ts k.tokens
 
+-- a text holds its end
+holds : (ts : List Token) → IsText ts → HoldsEnd ts
+holds ts k = (k.0, [], k.1, k.2, k.3)
+
 -- ---- sources
 
 pub one_source : (r : Readers) → Exact r → (b : List ℕ) (m w : Module) → Source b m → Source b w → w ≡ m
@@ -89,4 +93,4 @@ one_source r exact b m w f g =
     only_tree r exact f.0 m w f.2 (subst P same g.2)
 
 pub decided_source : (r : Readers) → Exact r → (b : List ℕ) (ts : List Token) → Tokens b ts → HasSource b ⊎ HasPlace ts
-decided_source r exact b ts k = elim (decided_tree r exact ts (tokens_text b ts k)) as (λ _. HasSource b ⊎ HasPlace ts) [ inl t ↦ inl (t.0, (ts, k, t.1)) | inr p ↦ inr p ]
+decided_source r exact b ts k = elim (decided_tree r exact ts (holds ts (tokens_text b ts k))) as (λ _. HasSource b ⊎ HasPlace ts) [ inl t ↦ inl (t.0, (ts, k, t.1)) | inr p ↦ inr p ]

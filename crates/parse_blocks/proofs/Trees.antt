@@ -19,7 +19,7 @@ use Rattle.bare_trees.proofs.Derived.{derived_bare}
 use Rattle.bare_trees.proofs.Numbering.{has_numbered}
 use Rattle.bare_trees.proofs.RestoreSources.{one_numbered}
 use Rattle.parse_statements.specs.Readers.{Readers, Exact}
-use Rattle.parse_blocks.specs.Answers.{IsText, DerivesLow, HasTree, HasNumberedTree, HasPlace}
+use Rattle.parse_blocks.specs.Answers.{HoldsEnd, DerivesLow, HasTree, HasNumberedTree, HasPlace}
 use Rattle.parse_blocks.proofs.Places.{decided, apart, one_tree}
 
 -- ---- trees with numbers
@@ -35,8 +35,8 @@ numbered_tree ts k =
     let Q : ℕ → Type 0 = λ z. z ≤ most_height in
     (n.0, ((subst P (sym same) k.1.0, n.2), subst Q (sym (ap height_of same) ∙ same_module n.0) k.1.1))
 
-pub decided_tree : (r : Readers) → Exact r → (ts : List Token) → IsText ts → HasNumberedTree ts ⊎ HasPlace ts
-decided_tree r exact ts text = elim (decided r exact ts text) as (λ _. HasNumberedTree ts ⊎ HasPlace ts) [ inl k ↦ inl (numbered_tree ts k) | inr k ↦ inr k ]
+pub decided_tree : (r : Readers) → Exact r → (ts : List Token) → HoldsEnd ts → HasNumberedTree ts ⊎ HasPlace ts
+decided_tree r exact ts held = elim (decided r exact ts held) as (λ _. HasNumberedTree ts ⊎ HasPlace ts) [ inl k ↦ inl (numbered_tree ts k) | inr k ↦ inr k ]
 
 pub apart_tree : (ts : List Token) (m : Module) (p : ParseRefusal) → Tree ts m → IsParsePlace ts p → ⊥
 apart_tree ts m p k h = apart ts (bare_module m) p (low_tree ts m k) h

@@ -1,5 +1,7 @@
 -- What a list of tokens has: a tree within the limit of height, or the place of its first bad token.
 use Rattle.std.specs.Prelude.{◌≡◌, ℕ, true, List, [], ◌∷◌, ◌++◌}
+use Rattle.codon_base.specs.declared.memory.Or.{Or}
+use Rattle.codon_base.specs.declared.memory.Or.TheVariants.{No, Memory}
 use Rattle.indent_lexer.specs.declared.token.Token.{Token}
 use Rattle.source_trees.specs.declared.item.Module.{Module}
 use Rattle.parse_laws.specs.Language.{Language}
@@ -13,6 +15,10 @@ use Rattle.grammar_rules.specs.Words.{is_end}
 abbrev pub IsText : List Token → Type 0
 IsText ts = (a : List Token) × (t : Token) × (ts ≡ a ++ t ∷ []) × (is_end t ≡ true)
 
+-- the end of a text stands in the list, whatever follows it
+abbrev pub HoldsEnd : List Token → Type 0
+HoldsEnd ts = (a : List Token) × (b : List Token) × (t : Token) × (ts ≡ a ++ t ∷ b) × (is_end t ≡ true)
+
 -- a tree of the list within the limit of height, without its numbers
 abbrev pub DerivesLow : Language Token Module
 DerivesLow = Limited Derives IsLow
@@ -22,6 +28,11 @@ HasTree ts = (m : Module) × DerivesLow ts m
 
 abbrev pub HasPlace : List Token → Type 0
 HasPlace ts = (p : ParseRefusal) × IsParsePlace ts p
+
+-- why the parser gives up: want of memory says nothing
+abbrev pub IsPlaceOf : List Token → Or ParseRefusal → Type 0
+IsPlaceOf ts (No p) = IsParsePlace ts p
+IsPlaceOf ts Memory = Unit {0}
 
 -- a tree of the list, with its numbers
 abbrev pub HasNumberedTree : List Token → Type 0

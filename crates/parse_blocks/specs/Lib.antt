@@ -4,3 +4,4 @@ pub mod Functions
 pub mod Sources
 pub mod Answers
 pub mod Whole
+pub mod Code

@@ -12,7 +12,7 @@ ghost use Rattle.grammar_rules.specs.Modules.{Derives, Source, Tree as IsTree};
 ghost use Rattle.grammar_rules.specs.Refusals.{IsParsePlace};
 ghost use Rattle.grammar_rules.specs.Statements.{IsStmt, IsStmts, IsBlock};
 ghost use Rattle.parse_statements.specs.Readers.{Readers, Exact, LowStmts};
-ghost use Rattle.parse_blocks.specs.Answers.{IsText, DerivesLow, HasTree, HasNumberedTree, HasPlace, HasSource};
+ghost use Rattle.parse_blocks.specs.Answers.{IsText, HoldsEnd, DerivesLow, HasTree, HasNumberedTree, HasPlace, HasSource};
 ghost use Rattle.parse_blocks.specs.Blocks.{stmt_on, stmts_on, statement, stmts, block};
 ghost use Rattle.parse_blocks.specs.Sources.{source};
 ghost use Rattle.parse_blocks.specs.Whole.{readers_with, ReadsTargets};
@@ -27,14 +27,14 @@ pub fn law_of_statements()
 /// The parser of whole sources is exact: it finds the one tree that a list of tokens has within the limit of height, and else the first bad token.
 pub fn law_of_sources()
     ensures exact { (r : Readers) → Exact r → (ts : List Token) → Law Derives DerivesLow any ts (source r ts) }
-    ensures decided { (r : Readers) → Exact r → (ts : List Token) → IsText ts → HasTree ts ⊎ HasPlace ts }
+    ensures decided { (r : Readers) → Exact r → (ts : List Token) → HoldsEnd ts → HasTree ts ⊎ HasPlace ts }
     ensures apart { (ts : List Token) (m : Module) (p : ParseRefusal) → DerivesLow ts m → IsParsePlace ts p → ⊥ }
     ensures one_tree { (r : Readers) → Exact r → (ts : List Token) (m w : Module) → DerivesLow ts m → Derives ts w → w ≡ m }
 {}
 
-/// A list of tokens that ends with the end of a text has a tree or the place of its first bad token, never both, and one of them at most.
+/// A list of tokens that holds the end of a text has a tree or the place of its first bad token, never both, and one of them at most.
 pub fn law_of_trees()
-    ensures decided { (r : Readers) → Exact r → (ts : List Token) → IsText ts → HasNumberedTree ts ⊎ HasPlace ts }
+    ensures decided { (r : Readers) → Exact r → (ts : List Token) → HoldsEnd ts → HasNumberedTree ts ⊎ HasPlace ts }
     ensures apart { (ts : List Token) (m : Module) (p : ParseRefusal) → IsTree ts m → IsParsePlace ts p → ⊥ }
     ensures one_tree { (r : Readers) → Exact r → (ts : List Token) (m w : Module) → IsTree ts m → IsTree ts w → w ≡ m }
     ensures one_place { (ts : List Token) (p q : ParseRefusal) → IsParsePlace ts p → IsParsePlace ts q → p ≡ q }

@@ -54,10 +54,10 @@ AtomFrom Nowhere = Nothing
 
 -- ---- facts of tokens
 
-plain_of : (t : Token) (name : Name) → is_word (codes "print") t ≡ false → name_at t ≡ Some name → plain_at t ≡ Some name
+pub plain_of : (t : Token) (name : Name) → is_word (codes "print") t ≡ false → name_at t ≡ Some name → plain_at t ≡ Some name
 plain_of t name p h = ap (λ b. if b then None else name_at t) p ∙ h
 
-plain_is : (t : Token) (name : Name) → plain_at t ≡ Some name → (is_word (codes "print") t ≡ false) × (name_at t ≡ Some name)
+pub plain_is : (t : Token) (name : Name) → plain_at t ≡ Some name → (is_word (codes "print") t ≡ false) × (name_at t ≡ Some name)
 plain_is t name h =
     let go : (b : Bool) → is_word (codes "print") t ≡ b → (if b then None else name_at t) ≡ Some name → (is_word (codes "print") t ≡ false) × (name_at t ≡ Some name) = elim [
       | true ↦ λ e k. absurd (cc)
@@ -179,7 +179,7 @@ square_up a v w =
       | inr k ↦ subst A (sym (w.2 ∙ ap (λ z. t ∷ z) k.joined)) (after_up t w.3 k.first k.value k.heads k.second v k.tails)
     ]
 
-atom_up : (c : Start) (a : List Token) (v : Expr) → AtomFrom c a v → IsAtom a v
+pub atom_up : (c : Start) (a : List Token) (v : Expr) → AtomFrom c a v → IsAtom a v
 atom_up Named a v w = named_up a v w
 atom_up Leaf a v w = leaf_up a v w
 atom_up Texts a v w = texts_up a v w
@@ -189,20 +189,20 @@ atom_up Nowhere a v w = absurd w
 
 -- ---- down: an atom is spelled by what its first token begins
 
-abbrev From : List Token → List Token → Expr → Type 0
+abbrev pub From : List Token → List Token → Expr → Type 0
 From l a v = AtomFrom (class_of start_of Nowhere l) a v
 
 by_start : (c : Start) (t : Token) → start_of t ≡ c → (a : List Token) (v : Expr) → AtomFrom c a v → (l : List Token) → From (t ∷ l) a v
 by_start c t h a v w l = let C : Start → Type 0 = λ z. AtomFrom z a v in subst C (sym h) w
 
-start_of_name : (t : Token) (spelling : List ℕ) → name_of t ≡ Some spelling → is_word (codes "print") t ≡ false → start_of t ≡ Named
+pub start_of_name : (t : Token) (spelling : List ℕ) → name_of t ≡ Some spelling → is_word (codes "print") t ≡ false → start_of t ≡ Named
 start_of_name t spelling h p =
     ap start_in (name_kind t spelling h) ∙ ap (λ b. if b then Nowhere else Named) (plain_name t spelling h p)
 
-name_at_of : (t : Token) (spelling : List ℕ) → name_of t ≡ Some spelling → name_at t ≡ Some (record { node = node_at t; spelling = spelling })
+pub name_at_of : (t : Token) (spelling : List ℕ) → name_of t ≡ Some spelling → name_at t ≡ Some (record { node = node_at t; spelling = spelling })
 name_at_of t spelling h = ap (named_by t) h
 
-atom_down : (a : List Token) (v : Expr) (s : List Token) → IsAtom a v → From (a ++ s) a v
+pub atom_down : (a : List Token) (v : Expr) (s : List Token) → IsAtom a v → From (a ++ s) a v
 atom_down _ _ s (g.name t spelling h p) =
     by_start Named t (start_of_name t spelling h p) (t ∷ []) (e.Name (node_at t) spelling)
     (record {
@@ -355,7 +355,7 @@ module _ (room : ℕ) (sub : Form → Parser Token Expr) (below : Reads room sub
       (reading.arguments room sub >>= λ xs. pure (call_tree name xs)) ts h
       (λ some. made_limited IsArguments atom_carries (call_tree name) (FitEach (Low room)) Within (call_carries name some) ts (reading.arguments room sub ts) (arguments_law room sub below atom_carries ts)))
 
-  named_law : (ts : List Token) → Law (AtomFrom Named) (Limited (AtomFrom Named) Within) atom_carries ts (and_then (take_by plain_at ts) (reading.named_rest room sub))
+  pub named_law : (ts : List Token) → Law (AtomFrom Named) (Limited (AtomFrom Named) Within) atom_carries ts (and_then (take_by plain_at ts) (reading.named_rest room sub))
   named_law ts =
       join_law (Picks plain_at) never NamedRest atom_carries Free_of_limit Within
       (record {

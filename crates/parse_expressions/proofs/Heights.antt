@@ -1,5 +1,5 @@
 -- The height of each form of expression by those of its parts: it is within a limit exactly where each part is one lower.
-use Rattle.std.proofs.Common.{◌≡◌, ℕ, ℤ, ◌+◌, max, List, [], ◌∷◌, ◌++◌, map, sym, ◌∙◌, ap, Option, Some, None}
+use Rattle.std.proofs.Common.{◌≡◌, ℕ, ℤ, ◌+◌, max, List, [], ◌∷◌, ◌++◌, map, sym, ◌∙◌, ap, Option, Some, None, arith}
 use Rattle.source_trees.specs.declared.node.Node.{Node}
 use Rattle.source_trees.specs.declared.node.Name.{Name}
 use Rattle.source_trees.specs.declared.expression.Commas.{Commas}
@@ -11,6 +11,7 @@ use Rattle.source_trees.specs.declared.operator.BinaryOp.{BinaryOp}
 use Rattle.source_trees.specs.declared.operator.UnaryOp.{UnaryOp}
 use Rattle.source_trees.specs.declared.statement.LoopNames.{LoopNames}
 use Rattle.source_trees.specs.Heights.{highest, over_parts, height_of_expr}
+use Rattle.parse_expressions.specs.Reading.{heights}
 use Rattle.source_trees.specs.Parts.{of_loop_names, of_expr, of_comparison, expr_step, comparison_step}
 
 pub height-Name : (n : Node) (s : List ℕ) → height_of_expr (e.Name n s) ≡ 1
@@ -89,10 +90,6 @@ pub height-Field : (n : Node) (x : Expr) (s : List ℕ) → height_of_expr (e.Fi
 unfolding of_expr
 height-Field n x s = ap height_of_expr (sym (e.rolls-Field n x s)) ∙ fold-roll-Expr ℕ ℕ (expr_step over_parts) (comparison_step over_parts) (Expr-F.Field n x s)
 
-abbrev pub heights : Option Expr → List ℕ
-heights None = []
-heights (Some x) = height_of_expr x ∷ []
-
 pub height-Slice : (n : Node) (x : Expr) (y z : Option Expr) → height_of_expr (e.Slice n x y z) ≡ highest (height_of_expr x ∷ heights y ++ heights z) + 1
 unfolding of_expr
 height-Slice n x None None = ap height_of_expr (sym (e.rolls-Slice n x None None)) ∙ fold-roll-Expr ℕ ℕ (expr_step over_parts) (comparison_step over_parts) (Expr-F.Slice n x None None)
@@ -137,3 +134,12 @@ pub ruleset known_heights = (
 )
 
 pub ruleset compare_known = (height-Compare)
+
+-- ---- the height of a slice by those of its parts
+
+joined_high : (xs ys : List ℕ) → highest (xs ++ ys) ≡ max (highest xs) (highest ys)
+joined_high [] ys = omega arith
+joined_high (x ∷ xs) ys = let k = joined_high xs ys in omega arith
+
+pub slice_height : (n : Node) (x : Expr) (y z : Option Expr) → height_of_expr (e.Slice n x y z) ≡ max (height_of_expr x) (max (highest (heights y)) (highest (heights z))) + 1
+slice_height n x y z = let h = height-Slice n x y z in let k = joined_high (heights y) (heights z) in omega arith

@@ -207,6 +207,14 @@ lead_atom t _ (an_atom v) small = viable_made IsAtom IsPostfix (λ a x p. g.atom
 lead_atom t _ (a_sign o h) small = absurd (omega arith)
 lead_atom t _ (a_not h) small = absurd (omega arith)
 
+lead_only : (t : Token) (l : ℕ) → Lead t l → l ≤ 1 → Viable IsAtom (t ∷ [])
+lead_only t _ (an_atom v) small = v
+lead_only t _ (a_sign o h) small = absurd (omega arith)
+lead_only t _ (a_not h) small = absurd (omega arith)
+
+pub atom_at : (t : Token) → begins 1 t ≡ true → Viable IsAtom (t ∷ [])
+atom_at t h = let l = lead_of t 1 (omega arith) t.kind refl h in lead_only t l.0 l.2 l.1
+
 factor_at : (t : Token) → begins 2 t ≡ true → Viable IsFactor (t ∷ [])
 factor_at t h = lead_factor t (lead_of t 2 (omega arith) t.kind refl h)
 

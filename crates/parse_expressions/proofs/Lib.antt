@@ -16,4 +16,8 @@ pub mod Wholes
 pub mod TypeHeights
 pub mod Types
 pub mod TypeLaw
+pub mod Pointed
+pub mod TargetLaw
+pub mod Rooms
+pub mod Beside
 pub mod Counting

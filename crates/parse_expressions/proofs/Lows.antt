@@ -1,7 +1,9 @@
 -- Lists of trees within a limit of height.
-use Rattle.std.proofs.Common.{◌≡◌, ℕ, ◌≤◌, max, nat_le, true, false, List, [], ◌∷◌, ◌++◌, map, sym, subst, Option, Some, None, codes, arith}
+use Rattle.std.proofs.Common.{◌≡◌, ℕ, ◌+◌, ◌≤◌, max, nat_le, true, false, List, [], ◌∷◌, ◌++◌, map, sym, subst, Option, Some, None, codes, arith}
 use Rattle.std.proofs.lemmas.Bool.{le-leb, leb-true}
+use Rattle.source_trees.specs.declared.node.Node.{Node}
 use Rattle.source_trees.specs.declared.node.Name.{Name}
+use Rattle.source_trees.specs.declared.expression.Expr.TheVariants as e
 use Rattle.source_trees.specs.declared.expression.Comparison.{Comparison}
 use Rattle.source_trees.specs.declared.expression.Expr.{Expr, Expr-F}
 use Rattle.source_trees.specs.declared.expression.Expr.TheFolds.{fold_out-Expr}
@@ -13,7 +15,8 @@ use Rattle.parse_laws.proofs.Lists.{FitEach}
 use Rattle.parse_expressions.specs.Forms.{Low}
 use Rattle.grammar_rules.specs.Words.{node_at}
 use Rattle.parse_expressions.proofs.Opens.{x_token, x_tree}
-use Rattle.parse_expressions.proofs.Heights.{heights, height-Name, height_of_comparison}
+use Rattle.parse_expressions.specs.Reading.{heights}
+use Rattle.parse_expressions.proofs.Heights.{height-Comprehension, height-Name, height_of_comparison}
 
 step_positive : (q : Expr-F ℕ ℕ) → 1 ≤ expr_step over_parts q
 step_positive (Expr-F.Name n s) = omega arith
@@ -112,3 +115,17 @@ highest_push (x ∷ xs) y = let k = highest_push xs y in omega arith
 pub comparisons_push : (cs : List Comparison) (d : Comparison) → highest (map (of_comparison over_parts) (cs ++ d ∷ [])) ≡ max (highest (map (of_comparison over_parts) cs)) (height_of_expr d.right)
 comparisons_push [] d = let e = height_of_comparison d in omega arith
 comparisons_push (c ∷ cs) d = let k = comparisons_push cs d in omega arith
+
+pub highest_joined : (xs ys : List Expr) → highest (map height_of_expr (xs ++ ys)) ≡ max (highest (map height_of_expr xs)) (highest (map height_of_expr ys))
+highest_joined [] ys = omega arith
+highest_joined (x ∷ xs) ys = let k = highest_joined xs ys in omega arith
+
+-- the names of a comprehension are no higher than its item
+pub comprehension_height : (n : Node) (x : Expr) (ns : LoopNames) (y : Expr) (z : Option Expr)
+    → height_of_expr (e.Comprehension n x ns y z) ≡ max (max (height_of_expr x) (height_of_expr y)) (highest (heights z)) + 1
+comprehension_height n x ns y z =
+    let h = height-Comprehension n x ns y z in
+    let k = highest-append (of_loop_names over_parts ns) (height_of_expr y ∷ heights z) in
+    let l = loop_names_high ns in
+    let m = positive x in
+    omega arith

@@ -28,7 +28,8 @@ use Rattle.parse_expressions.specs.Reading as reading
 use Rattle.parse_expressions.specs.Reading.{is_open, is_square, is_square_close, is_dot, is_colon, is_trailer}
 use Rattle.parse_expressions.proofs.Tokens.{op_kind, or_first, or_second, or_none}
 use Rattle.parse_expressions.proofs.Opens.{x_token, op_token, opens}
-use Rattle.parse_expressions.proofs.Heights.{heights, height-Index, height-Slice, height-Field, height-MethodCall}
+use Rattle.parse_expressions.specs.Reading.{heights}
+use Rattle.parse_expressions.proofs.Heights.{height-Index, height-Slice, height-Field, height-MethodCall}
 use Rattle.parse_expressions.proofs.Lows.{highest_up, highest_down, highest-append, no_room, LowOption, optional_up, optional_down}
 use Rattle.parse_expressions.proofs.Leaves.{Free_of_limit}
 use Rattle.parse_expressions.proofs.Rows.{Reads, arguments_law}
@@ -53,38 +54,38 @@ optional_from a o w =
           subst A (sym k.0) (subst X (sym k.1) g.absent)
     ]
 
-abbrev method_tree : Expr → List ℕ → List Expr → Expr
+abbrev pub method_tree : Expr → List ℕ → List Expr → Expr
 method_tree x spelling xs = e.MethodCall (node_of x) (node_of x) x spelling xs
 
-abbrev field_tree : Expr → List ℕ → Expr
+abbrev pub field_tree : Expr → List ℕ → Expr
 field_tree x spelling = e.Field (node_of x) x spelling
 
-abbrev slice_tree : Expr → Option Expr → Option Expr → Expr
+abbrev pub slice_tree : Expr → Option Expr → Option Expr → Expr
 slice_tree x o p = e.Slice (node_of x) x o p
 
-abbrev index_tree : Expr → Expr → Expr
+abbrev pub index_tree : Expr → Expr → Expr
 index_tree x y = e.Index (node_of x) x y
 
-abbrev FieldRest : Expr → List ℕ → Language Token Expr
+abbrev pub FieldRest : Expr → List ℕ → Language Token Expr
 FieldRest x spelling = Either (Made IsArguments (method_tree x spelling)) (Is (field_tree x spelling))
 
-abbrev Dotted : Expr → Language Token Expr
+abbrev pub Dotted : Expr → Language Token Expr
 Dotted x = Opens is_dot (λ _. Then (Picks name_of) (FieldRest x))
 
-abbrev Sliced : Expr → Option Expr → Language Token Expr
+abbrev pub Sliced : Expr → Option Expr → Language Token Expr
 Sliced x o = Opens is_colon (λ _. Closes IsOptional is_square_close (slice_tree x o))
 
-abbrev IndexAt : Expr → Option Expr → Language Token Expr
+abbrev pub IndexAt : Expr → Option Expr → Language Token Expr
 IndexAt x None = Nothing
 IndexAt x (Some y) = Ends is_square_close (index_tree x y)
 
-abbrev AfterIndex : Expr → Option Expr → Language Token Expr
+abbrev pub AfterIndex : Expr → Option Expr → Language Token Expr
 AfterIndex x o = Either (Sliced x o) (IndexAt x o)
 
-abbrev Indexed : Expr → Language Token Expr
+abbrev pub Indexed : Expr → Language Token Expr
 Indexed x = Opens is_square (λ _. Then IsOptional (AfterIndex x))
 
-abbrev Trailer : Expr → Language Token Expr
+abbrev pub Trailer : Expr → Language Token Expr
 Trailer x = Either (Dotted x) (Indexed x)
 
 -- ---- trailers follow one another
@@ -132,7 +133,7 @@ trailers_up _ _ _ (next x b u c w s rest) a p =
     let A : List Token → Type 0 = λ z. IsPostfix z w in
     subst A (append_assoc a b c) (trailers_up u c w rest (a ++ b) (trailer_up a x p b u s))
 
-postfix_from : (a : List Token) (w : Expr) → Then IsAtom (Turns Trailer) a w → IsPostfix a w
+pub postfix_from : (a : List Token) (w : Expr) → Then IsAtom (Turns Trailer) a w → IsPostfix a w
 postfix_from a w k =
     let A : List Token → Type 0 = λ z. IsPostfix z w in
     subst A (sym k.joined) (trailers_up k.value k.second w k.tails k.first (g.atom k.first k.value k.heads))
@@ -147,7 +148,7 @@ one_more a x k b u s = record {
   tails = turns_snoc Trailer k.value k.second x k.tails b u s;
 }
 
-postfix_to : (a : List Token) (w : Expr) → IsPostfix a w → Then IsAtom (Turns Trailer) a w
+pub postfix_to : (a : List Token) (w : Expr) → IsPostfix a w → Then IsAtom (Turns Trailer) a w
 postfix_to _ _ (g.atom a x p) = record { first = a; second = []; value = x; joined = sym (append-nil a); heads = p; tails = done x }
 postfix_to _ _ (g.index a x t b y c p h q i) =
     one_more a x (postfix_to a x p) (t ∷ (b ++ c ∷ [])) (index_tree x y)
@@ -177,24 +178,24 @@ postfix_to _ _ (g.method a x d t s b xs p h i q) =
 
 -- ---- facts of tokens
 
-op_carries : (word : List ℕ) (k : ℕ) (x : Bool) → nat_le (carried_by (kind.Op word)) k ≡ x → (t : Token) → is_op word t ≡ true → carries k t ≡ x
+pub op_carries : (word : List ℕ) (k : ℕ) (x : Bool) → nat_le (carried_by (kind.Op word)) k ≡ x → (t : Token) → is_op word t ≡ true → carries k t ≡ x
 op_carries word k x h t i = ap (λ z. nat_le (carried_by z) k) (op_kind word t i) ∙ h
 
-op_is_no : (word other : List ℕ) → is_op other (op_token word) ≡ false → (t : Token) → is_op word t ≡ true → is_op other t ≡ false
+pub op_is_no : (word other : List ℕ) → is_op other (op_token word) ≡ false → (t : Token) → is_op word t ≡ true → is_op other t ≡ false
 op_is_no word other h t i = ap (λ z. is_spelled (op_in z) other) (op_kind word t i) ∙ h
 
-by_trailer : (P : Token → Type 0) → ((t : Token) → is_dot t ≡ true → P t) → ((t : Token) → is_square t ≡ true → P t) → (t : Token) → is_trailer t ≡ true → P t
+pub by_trailer : (P : Token → Type 0) → ((t : Token) → is_dot t ≡ true → P t) → ((t : Token) → is_square t ≡ true → P t) → (t : Token) → is_trailer t ≡ true → P t
 by_trailer P dot square t h =
     let go : (x : Bool) → is_dot t ≡ x → x || is_square t ≡ true → P t = elim [ true ↦ λ i k. dot t i | false ↦ λ i k. square t k ] in
     go (is_dot t) refl h
 
-trailer_own : (t : Token) → is_trailer t ≡ true → carries 1 t ≡ true
+pub trailer_own : (t : Token) → is_trailer t ≡ true → carries 1 t ≡ true
 trailer_own = by_trailer (λ t. carries 1 t ≡ true) (op_carries (codes ".") 1 true refl) (op_carries (codes "[") 1 true refl)
 
-trailer_no_open : (t : Token) → is_trailer t ≡ true → is_open t ≡ false
+pub trailer_no_open : (t : Token) → is_trailer t ≡ true → is_open t ≡ false
 trailer_no_open = by_trailer (λ t. is_open t ≡ false) (op_is_no (codes ".") (codes "(") refl) (op_is_no (codes "[") (codes "(") refl)
 
-open_wider : (t : Token) → carries 1 t ≡ false → is_open t ≡ false
+pub open_wider : (t : Token) → carries 1 t ≡ false → is_open t ≡ false
 open_wider t h =
     let go : (x : Bool) → is_open t ≡ x → x ≡ false = elim [
       | true ↦ λ e. let k = op_carries (codes "(") 1 true refl t e in absurd (cc)
@@ -231,7 +232,7 @@ close_ends_optional = op_ends_optional (codes "]") refl refl
 colon_ends_optional : (t : Token) → is_colon t ≡ true → optional_carries t ≡ false
 colon_ends_optional = op_ends_optional (codes ":") refl refl
 
-trailer_opens : (x : Expr) (b : List Token) (u : Expr) (s : List Token) → Trailer x b u → sees is_trailer (b ++ s) ≡ true
+pub trailer_opens : (x : Expr) (b : List Token) (u : Expr) (s : List Token) → Trailer x b u → sees is_trailer (b ++ s) ≡ true
 trailer_opens x b u s (inl k) = ap (λ z. sees is_trailer (z ++ s)) k.2 ∙ or_first (is_dot k.0) (is_square k.0) k.3
 trailer_opens x b u s (inr k) = ap (λ z. sees is_trailer (z ++ s)) k.2 ∙ or_second (is_dot k.0) (is_square k.0) k.3
 
@@ -241,17 +242,17 @@ module _ (room : ℕ) (sub : Form → Parser Token Expr) (below : Reads room sub
 
   -- ---- heights
 
-  field_low : (x : Expr) (s : List ℕ) → Low room x → Within (field_tree x s)
+  pub field_low : (x : Expr) (s : List ℕ) → Low room x → Within (field_tree x s)
   field_low x s f = let h = height-Field (node_of x) x s in omega arith
 
-  index_low : (x y : Expr) → Low room x → Low room y → Within (index_tree x y)
+  pub index_low : (x y : Expr) → Low room x → Low room y → Within (index_tree x y)
   index_low x y f i = let h = height-Index (node_of x) x y in omega arith
 
   slice_low : (x : Expr) (o p : Option Expr) → Low room x → LowOption room o → LowOption room p → Within (slice_tree x o p)
   slice_low x o p f i j =
       let h = height-Slice (node_of x) x o p in let k = highest-append (heights o) (heights p) in let l = optional_up room o i in let m = optional_up room p j in omega arith
 
-  slice_parts : (x : Expr) (o p : Option Expr) → Within (slice_tree x o p) → Low room x × LowOption room o × LowOption room p
+  pub slice_parts : (x : Expr) (o p : Option Expr) → Within (slice_tree x o p) → Low room x × LowOption room o × LowOption room p
   slice_parts x o p f =
       let h = height-Slice (node_of x) x o p in
       let k = highest-append (heights o) (heights p) in
@@ -266,13 +267,13 @@ module _ (room : ℕ) (sub : Form → Parser Token Expr) (below : Reads room sub
   field_rest_parts x s c u (inl k) f = let g = subst Within k.2 f in let h = height-MethodCall (node_of x) (node_of x) x s k.0 in omega arith
   field_rest_parts x s c u (inr k) f = let g = subst Within k.1 f in let h = height-Field (node_of x) x s in omega arith
 
-  trailer_parts : (x : Expr) (b : List Token) (u : Expr) → Trailer x b u → Within u → Low room x
+  pub trailer_parts : (x : Expr) (b : List Token) (u : Expr) → Trailer x b u → Within u → Low room x
   trailer_parts x b u (inl k) f = let n = k.4 in field_rest_parts x n.value n.second u n.tails f
   trailer_parts x b u (inr k) f = let n = k.4 in (after_parts x n.value n.second u n.tails f).0
 
   -- ---- after a dot
 
-  method_carries : (x : Expr) (s : List ℕ) → nat_le (height_of_expr x + 1) room ≡ true → Carries (method_tree x s) (FitEach (Low room)) Within
+  pub method_carries : (x : Expr) (s : List ℕ) → nat_le (height_of_expr x + 1) room ≡ true → Carries (method_tree x s) (FitEach (Low room)) Within
   method_carries x s some = record {
     grows = λ xs f. let h = height-MethodCall (node_of x) (node_of x) x s xs in let k = highest_up room xs f in let l = leb-true (height_of_expr x + 1) room some in omega arith;
     shrinks = λ xs f. let h = height-MethodCall (node_of x) (node_of x) x s xs in highest_down room xs (omega arith);
@@ -324,7 +325,7 @@ module _ (room : ℕ) (sub : Form → Parser Token Expr) (below : Reads room sub
       (λ h. made_limited IsExpr optional_carries (λ x. Some x) (Low room) (LowOption room) (record { grows = λ x f. f; shrinks = λ x f. f }) ts (sub form.Whole ts)
       (wider_law IsExpr (Limited IsExpr (Low room)) (carries 12) optional_carries (λ t i. or_none (begins 3 t) (carries 12 t) i) ts (sub form.Whole ts) (below form.Whole ts))))
 
-  slice_law : (x : Expr) → Low room x → (o : Option Expr) → LowOption room o → (cont : Token → Bool) (ts : List Token)
+  pub slice_law : (x : Expr) → Low room x → (o : Option Expr) → LowOption room o → (cont : Token → Bool) (ts : List Token)
       → Law (Sliced x o) (Limited (Sliced x o) Within) cont ts (reading.slice_from room sub x o ts)
   unfolding reading.slice_from
   slice_law x f o i cont ts =
@@ -340,7 +341,7 @@ module _ (room : ℕ) (sub : Form → Parser Token Expr) (below : Reads room sub
   index_law x f None i cont ts = nothing_law Within cont ts
   index_law x f (Some y) i cont ts = end_limited is_square_close (index_tree x y) Within (index_low x y f i) cont ts
 
-  index_misses : (x : Expr) (o : Option Expr) (a : List Token) (v : Expr) (s : List Token) → IndexAt x o a v → sees is_colon (a ++ s) ≡ false
+  pub index_misses : (x : Expr) (o : Option Expr) (a : List Token) (v : Expr) (s : List Token) → IndexAt x o a v → sees is_colon (a ++ s) ≡ false
   index_misses x None a v s k = absurd k
   index_misses x (Some y) a v s k = ap (λ z. sees is_colon (z ++ s)) k.1 ∙ op_is_no (codes "]") (codes ":") refl k.0 k.2
 
@@ -381,11 +382,11 @@ module _ (room : ℕ) (sub : Form → Parser Token Expr) (below : Reads room sub
 
   -- ---- a trailer
 
-  dot_viable : (x : Expr) (t : Token) → is_dot t ≡ true → Viable (Trailer x) (t ∷ [])
+  pub dot_viable : (x : Expr) (t : Token) → is_dot t ≡ true → Viable (Trailer x) (t ∷ [])
   dot_viable x t h =
       (x_token ∷ [], field_tree x (codes "x"), inl (t, x_token ∷ [], refl, h, record { first = x_token ∷ []; second = []; value = codes "x"; joined = refl; heads = (x_token, refl, refl); tails = inr (refl, refl) }))
 
-  square_viable : (x : Expr) (t : Token) → is_square t ≡ true → Viable (Trailer x) (t ∷ [])
+  pub square_viable : (x : Expr) (t : Token) → is_square t ≡ true → Viable (Trailer x) (t ∷ [])
   square_viable x t h = (
     op_token (codes ":") ∷ op_token (codes "]") ∷ [],
     slice_tree x None None,
@@ -425,12 +426,12 @@ module _ (room : ℕ) (sub : Form → Parser Token Expr) (below : Reads room sub
   unfolding reading.trailers
   trailers_law x f ts = repeat_law (λ _. is_trailer) Trailer (λ _. is_open) (carries 1) Within repeated (reading.trailer room sub) trailer_law (length ts) x ts (omega arith) f
 
-  trailers_apart : (x : Expr) (c : List Token) (w : Expr) (s : List Token) → Turns Trailer x c w → Free (carries 1) s → Free atom_carries (c ++ s)
+  pub trailers_apart : (x : Expr) (c : List Token) (w : Expr) (s : List Token) → Turns Trailer x c w → Free (carries 1) s → Free atom_carries (c ++ s)
   trailers_apart _ _ _ s (done x) free = wider_at atom_carries (carries 1) atom_wider s free
   trailers_apart _ _ _ s (next x b u c w p rest) free =
       ap (sees atom_carries) (append_assoc b c s) ∙ at_head is_trailer atom_carries false trailer_no_atom (b ++ (c ++ s)) (trailer_opens x b u (c ++ s) p)
 
-  trailers_shrink : (x : Expr) (c : List Token) (w : Expr) → Turns Trailer x c w → Within w → Within x
+  pub trailers_shrink : (x : Expr) (c : List Token) (w : Expr) → Turns Trailer x c w → Within w → Within x
   trailers_shrink _ _ _ (done x) f = f
   trailers_shrink _ _ _ (next x b u c w p rest) f = let k = trailer_parts x b u p (trailers_shrink u c w rest f) in omega arith
 

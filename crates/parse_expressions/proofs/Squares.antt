@@ -30,7 +30,8 @@ use Rattle.parse_expressions.specs.Reading.{is_square, is_square_close, is_for, 
 use Rattle.parse_expressions.proofs.Tokens.{or_first, or_none, carries_looser, op_kind, keyword_kind, not_op}
 use Rattle.parse_expressions.proofs.Opens.{x_token, x_tree, op_token, keyword_token, opens}
 use Rattle.parse_expressions.proofs.Least.{least}
-use Rattle.parse_expressions.proofs.Heights.{heights, height-List, height-Comprehension}
+use Rattle.parse_expressions.specs.Reading.{heights}
+use Rattle.parse_expressions.proofs.Heights.{height-List, height-Comprehension}
 use Rattle.parse_expressions.proofs.Lows.{positive, highest_up, highest_down, highest-append, loop_names_high, LowOption, x_low, optional_up, optional_down}
 use Rattle.parse_expressions.proofs.Leaves.{Free_of_limit, names_carry, names_law}
 use Rattle.parse_expressions.proofs.Rows.{Reads, row_carries, row_given, ends_row}

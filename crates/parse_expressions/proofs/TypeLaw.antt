@@ -139,7 +139,7 @@ module _ (room : ℕ) (sub : Parser Token Annotation) (below : ReadsTypes room s
   turns_shrink _ _ _ (next v b u c w p rest) f = fit_front room v p.0.0 (subst Fit p.0.2 (turns_shrink u c w rest f))
 
   types_law : 1 ≤ room → (ts : List Token) → Law TypeRow (Limited TypeRow Fit) row_carries ts (reading.types room sub ts)
-  unfolding reading.types
+  unfolding reading.types reading.types_after
   types_law some ts =
       join_law IsType is_square (λ x. Turns Step (x ∷ [])) row_carries (LowType room) Fit
       (record {

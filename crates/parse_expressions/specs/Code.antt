@@ -8,8 +8,10 @@ use Rattle.parse_expressions.specs.declared.cursor.ParseError.{ParseError}
 use Rattle.parse_expressions.specs.declared.cursor.ParseError.TheVariants.{Memory, Refused}
 use denote.Ref.{Bor, MutBor}
 use Rattle.source_trees.specs.declared.expression.Expr.{Expr}
+use Rattle.source_trees.specs.declared.item.Annotation.{Annotation}
 use Rattle.parse_expressions.specs.declared.form.Form.{Form}
 use Rattle.parse_expressions.specs.Reading.{read}
+use Rattle.parse_expressions.specs.TypeReading.{read_type}
 
 abbrev pub IsStop : {A : Type 0} → Outcome Token A → ParseError → List Token → Type 0
 IsStop out Memory rest = Unit {0}
@@ -30,3 +32,10 @@ pub record Subs (room : ℕ) (pre : Global → MutBor (List Token) → ℕ → F
   pub callable : (alloc : Global) (old : MutBor (List Token)) (f : Form) → pre alloc old room f
   pub reads : (alloc : Global) (old new : MutBor (List Token)) (f : Form) (r : Result Expr ParseError) → post alloc old room f r new
       → Reads (read room f old.now) r new.now
+
+-- a function value that reads the types that are at most `room` high
+pub record TypeSubs (room : ℕ) (pre : Global → MutBor (List Token) → ℕ → Type 0)
+    (post : Global → MutBor (List Token) → ℕ → Result Annotation ParseError → MutBor (List Token) → Type 0) : Type 0 where
+  pub callable : (alloc : Global) (old : MutBor (List Token)) → pre alloc old room
+  pub reads : (alloc : Global) (old new : MutBor (List Token)) (r : Result Annotation ParseError) → post alloc old room r new
+      → Reads (read_type room old.now) r new.now

@@ -173,6 +173,11 @@ abbrev pub limit_of : Bool → List Expr → Bool
 limit_of true = few
 limit_of false = any_number
 
+-- the height of an expression that may be absent
+abbrev pub heights : Option Expr → List ℕ
+heights None = []
+heights (Some x) = height_of_expr x ∷ []
+
 -- ---- parts that hold no expression
 
 unfoldable pub names : Parser Token LoopNames

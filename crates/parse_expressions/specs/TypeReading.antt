@@ -83,8 +83,16 @@ module _ (room : ℕ) (sub : Parser Token Annotation) where
       (within (nat_le 1 room) (expect is_square >>= λ _. sub >>= λ x. expect is_square_close >> pure (annotation.List name.node x)))
       (pure (class_tree name))
 
+  -- a comma and one more type behind those that stand
+  abbrev pub one_more_type : List Annotation → Parser Token (List Annotation)
+  one_more_type xs = expect is_comma >>= λ _. sub >>= λ y. pure (xs ++ y ∷ [])
+
+  -- the types behind those that stand
+  unfoldable pub types_after : List Annotation → Parser Token (List Annotation)
+  types_after xs = λ ts. repeat more_types one_more_type (length ts) xs ts
+
   unfoldable pub types : Parser Token (List Annotation)
-  types = sub >>= λ x ts. repeat more_types (λ xs. expect is_comma >>= λ _. sub >>= λ y. pure (xs ++ y ∷ [])) (length ts) (x ∷ []) ts
+  types = sub >>= λ x. types_after (x ∷ [])
 
   unfoldable pub tuple_rest : Name → Parser Token Annotation
   tuple_rest name = choose is_square

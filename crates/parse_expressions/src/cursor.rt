@@ -14,6 +14,7 @@ use std::marker::Model;
 /// Why a parser stopped.
 #[derive(Clone, Copy, Debug, PartialEq, Eq)]
 pub enum ParseError {
+    /// Memory ran out.
     Memory,
     /// The token at the cursor is the first that no text goes on with.
     Refused(Cause),
@@ -46,6 +47,7 @@ impl<'a> Model for Cursor<'a> {
 }
 
 impl<'a> Cursor<'a> {
+    /// A cursor at the first of these tokens.
     pub fn new(rest: &'a [Token]) -> Cursor<'a>
         ensures { result ≡ rest.now }
     {

@@ -35,28 +35,38 @@ fn name_at(alloc: Global, token: &Token) -> Result<Option<Name>, AllocError>
 }
 
 /// The tree of a number or a constant, where the token is one.
-fn leaf_of(token: &Token) -> Option<Measured>
-    ensures { result ≡ leaf_of token.now }
+fn leaf_of(alloc: Global, token: &Token) -> Result<Option<Measured>, AllocError>
+    ensures { IfOk result (λ leaf. leaf ≡ leaf_of token.now) }
 {
     let node = node_at(token);
     match &token.kind {
-        TokenKind::Number(value) => Some(measured::number(node, *value)),
-        TokenKind::Keyword(spelling) => constant(node, spelling),
-        _ => None,
+        TokenKind::Number(value) => {
+            let leaf = measured::number(alloc, node, *value)?;
+            Ok(Some(leaf))
+        }
+        TokenKind::Keyword(spelling) => {
+            let leaf = constant(alloc, node, spelling)?;
+            Ok(leaf)
+        }
+        _ => Ok(None),
     }
 }
 
-fn constant(node: Node, spelling: &Spelling) -> Option<Measured>
-    ensures { result ≡ constant node spelling.now }
+/// The tree of a constant, where the keyword is one.
+fn constant(alloc: Global, node: Node, spelling: &Spelling) -> Result<Option<Measured>, AllocError>
+    ensures { IfOk result (λ leaf. leaf ≡ constant node spelling.now) }
 {
     if spells(spelling, b"True".as_slice()) {
-        Some(measured::truth(node))
+        let leaf = measured::truth(alloc, node)?;
+        Ok(Some(leaf))
     } else if spells(spelling, b"False".as_slice()) {
-        Some(measured::falsity(node))
+        let leaf = measured::falsity(alloc, node)?;
+        Ok(Some(leaf))
     } else if spells(spelling, b"None".as_slice()) {
-        Some(measured::nothing(node))
+        let leaf = measured::nothing(alloc, node)?;
+        Ok(Some(leaf))
     } else {
-        None
+        Ok(None)
     }
 }
 
@@ -271,13 +281,13 @@ impl<'a> Cursor<'a> {
     }
 
     /// Takes a number or a constant.
-    pub fn take_leaf(&mut self) -> Result<Measured, ParseError>
+    pub fn take_leaf(&mut self, alloc: Global) -> Result<Measured, ParseError>
         ensures { Reads (take_by leaf_of self.old) result self.new }
     {
         let Some(first) = self.first() else {
             return Err(ParseError::Refused(Cause::Unexpected));
         };
-        let Some(leaf) = leaf_of(first) else {
+        let Some(leaf) = leaf_of(alloc, first)? else {
             return Err(ParseError::Refused(Cause::Unexpected));
         };
         self.skip();

@@ -16,6 +16,7 @@ pub enum Start {
     Named,
     /// A number or a constant.
     Leaf,
+    /// Texts side by side.
     Texts,
     /// What begins with a round bracket.
     Round,
@@ -28,8 +29,11 @@ pub enum Start {
 /// What a type is, by its first token.
 #[derive(Clone, Copy, Debug, PartialEq, Eq)]
 pub enum TypeStart {
+    /// One token: a name, or `None`.
     Simple,
+    /// `list` or `List`.
     ListWord,
+    /// `tuple` or `Tuple`.
     TupleWord,
     /// No type begins with the token.
     Nowhere,

@@ -126,10 +126,11 @@ impl<'a> Cursor<'a> {
         let TokenKind::Text(value) = &first.kind else {
             return Err(ParseError::Refused(Cause::Unexpected));
         };
-        let value = value.try_clone(alloc)?;
+        let value = value.try_clone()?;
         self.skip();
         let text = self.more_texts(value)?;
-        Ok(measured::text(node_at(first), text))
+        let tree = measured::text(alloc, node_at(first), text)?;
+        Ok(tree)
     }
 
     /// Whether the next token is a comma, or a name where one may follow.

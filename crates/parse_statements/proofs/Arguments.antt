@@ -226,7 +226,7 @@ abbrev counts : List (Option Expr) → Bool
 counts s = nat_lt (length (filled s)) most_items
 
 -- what the first token of an argument that may follow tells
-starts_tells : (s : List (Option Expr)) (ts : List Token) → sees (starts_argument s) ts ≡ true
+pub starts_tells : (s : List (Option Expr)) (ts : List Token) → sees (starts_argument s) ts ≡ true
     → (sees is_dots ts ≡ true → not (has_piped s) ≡ true) × (sees is_dots ts ≡ false → counts s ≡ true)
 starts_tells s [] h = absurd (cc)
 starts_tells s (t ∷ ts) h = (

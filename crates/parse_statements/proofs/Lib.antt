@@ -17,3 +17,13 @@ pub mod Leads
 pub mod Simples
 pub mod Lines
 pub mod Options
+pub mod Turned
+pub mod Goes
+pub mod Placed
+pub mod Piped
+pub mod Pushed
+pub mod Afters
+pub mod Bare
+pub mod Assigned
+pub mod Named
+pub mod Ended

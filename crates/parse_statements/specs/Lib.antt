@@ -9,3 +9,6 @@ pub mod Many
 pub mod Simple
 pub mod Lines
 pub mod Options
+pub mod Code
+pub mod Settings
+pub mod Views

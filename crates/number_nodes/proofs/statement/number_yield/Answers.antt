@@ -1,0 +1,9 @@
+use Rattle.std.proofs.Common.{refl}
+use Rattle.number_nodes.proofs.StatementForms as form
+use Rattle.number_nodes.proofs.Parts.{its_node, its_part}
+use Rattle.number_nodes.proofs.statement.number_yield.Goals as goal
+
+pub returns : goal.returns
+returns c =
+    let pair = c.in_ok-node.ensures in
+    form.stmt_Yield refl (its_node c.number_node-node.ensures pair.0) (its_part c.number_expr-value.ensures pair.1)

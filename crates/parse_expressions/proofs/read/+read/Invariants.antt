@@ -1,0 +1,4 @@
+use Rattle.parse_expressions.proofs.read.+read.Given as goal
+
+abbrev pub decreases-read : goal.decreases-read
+decreases-read l = l.room
