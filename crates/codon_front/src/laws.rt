@@ -1,8 +1,8 @@
 ghost use Rattle.std.specs.Prelude.{◌≡◌, ℕ, List};
-ghost use Rattle.codon_front.specs.Lines.Program.{Line, IsSource, IsFirstBadLine};
+ghost use Rattle.codon_front.specs.Due.{Due, IsDueOfText};
+ghost use Rattle.codon_front.specs.declared.command.Action.{Action};
 
-/// A text is the text of one program at most, and where it is, no line is refused.
-pub fn a_text_has_one_program()
-    ensures program { (text : List ℕ) (these those : List Line) → IsSource text these → IsSource text those → these ≡ those }
-    ensures accepted { (text : List ℕ) (lines : List Line) (number : ℕ) → IsSource text lines → IsFirstBadLine text number → ⊥ }
+/// For each text and each thing to do with it, one thing is due and one only.
+pub fn law_of_dues()
+    ensures one { (action : Action) (text : List ℕ) (d e : Due) → IsDueOfText action text d → IsDueOfText action text e → d ≡ e }
 {}
