@@ -11,9 +11,6 @@ use Rattle.source_trees.specs.declared.item.Module.{Module}
 use Rattle.grammar_rules.specs.declared.refusal.ParseRefusal.{ParseRefusal}
 use Rattle.grammar_rules.specs.Modules.{Source, Tree}
 use Rattle.grammar_rules.specs.Refusals.{IsParsePlace}
-use Rattle.parse_statements.specs.Code.{readers}
-use Rattle.parse_blocks.proofs.ExactReaders.{exact_readers}
-use Rattle.parse_blocks.proofs.Trees.{apart_tree, only_tree, one_place}
 use Rattle.meaning_rules.specs.State.{State, Stop, TooDeep}
 use Rattle.meaning_rules.specs.Outcome.{Outcome, Stops}
 use Rattle.meaning_rules.specs.Meaning.{outcome}
@@ -21,12 +18,13 @@ use Rattle.straight_lines.specs.Built.{first_unbuilt}
 use Rattle.codon_front.specs.Command.{Command}
 use Rattle.codon_front.specs.Refusals.{lex_line, parse_line, unbuilt_line, too_long_line}
 use Rattle.codon_front.specs.Due.{Due, IsPlainDue, EntersMore, IsDueOfTree, IsRefusedWith, IsDueOfText, IsDue, most_depth, deep_line, refused, source_limit}
+use Rattle.codon_front.proofs.Parsing.{apart_tree, only_tree, one_place}
 use Rattle.codon_front.specs.declared.command.Action.{Action}
 use Rattle.codon_front.specs.declared.command.Action.TheVariants.{Run, Plain, Check}
 
 -- ---- trees
 
-deep : List ℕ → Due
+abbrev deep : List ℕ → Due
 deep bytes = record { out = bytes; err = deep_line; status = status.Deep }
 
 same_bytes : (m : Module) (fuel : ℕ) (a b : List ℕ) → EntersMore m fuel a → EntersMore m fuel b → a ≡ b
@@ -61,7 +59,7 @@ same_tokens : (text : List ℕ) (m w : Module) → Source text m → Source text
 same_tokens text m w h g =
     let tokens : h.0 ≡ g.0 = lists text h.0 g.0 h.1 g.1 in
     let P : List Token → Type 0 = λ ts. Tree ts m in
-    only_tree readers exact_readers g.0 w m g.2 (subst P tokens h.2)
+    only_tree g.0 w m g.2 (subst P tokens h.2)
 
 same_line : (text line other : List ℕ) → IsRefusedWith text line → IsRefusedWith text other → line ≡ other
 same_line text line other (inl h) (inl g) = h.2 ∙ ap lex_line (refusals text h.0 g.0 h.1 g.1) ∙ sym g.2

@@ -9,5 +9,5 @@ use Rattle.codon_front.specs.declared.command.Command as code
 abbrev pub seen_command : code.Command → Command
 seen_command c = record { action = c.action; file = string_bytes c.file.now }
 
-abbrev pub seen_pair : ℕ × Bor String → ℕ × List ℕ
+abbrev pub seen_pair : {Z : Type 0} → ℕ × Bor (String Z) → ℕ × List ℕ
 seen_pair p = (p.0, string_bytes p.1.now)

@@ -24,8 +24,11 @@ pub fn run_by_plain<O: Sink>(alloc: Global, module: &Module, fuel: u64, out: &mu
     let Ok(plain) = run_plain(alloc, module, fuel, MOST_DEPTH) else {
         return Err(Stop::Memory);
     };
-    match put(plain.out.as_slice(), out) {
-        Ok(()) => told(alloc, &plain.end),
+    if let Err(stop) = put(plain.out.as_slice(), out) {
+        return Err(stop);
+    }
+    match told(alloc, &plain.end) {
+        Ok(()) => Ok(()),
         Err(stop) => Err(stop),
     }
 }

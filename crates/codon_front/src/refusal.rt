@@ -67,7 +67,7 @@ fn push_detail(line: &mut Vec<u8>, kind: ParseKind, shown: &[u8]) -> Result<(), 
 
 /// How a token of a text is shown.
 fn shown_at<'a>(text: &'a [u8], token: Option<&Token>) -> &'a [u8]
-    ensures { result.now ≡ shown_at text.now (option_map (λ t. t.now) token) }
+    ensures { result.now ≡ shown_at text.now (option_map (λ t. t.now) token.entry) }
 {
     match token {
         None => &[],

@@ -21,8 +21,17 @@ pub fn run_tree<O: Sink>(alloc: Global, action: Action, module: &Module, out: &m
     ensures later { O.faults out.old ≤ O.faults out.new }
 {
     match action {
-        Action::Run(_) => run_compiled(alloc, module, out),
-        Action::Plain(fuel) => run_by_plain(alloc, module, fuel, out),
-        Action::Check => put(ACCEPTED, out),
+        Action::Run(_) => match run_compiled(alloc, module, out) {
+            Ok(()) => Ok(()),
+            Err(stop) => Err(stop),
+        },
+        Action::Plain(fuel) => match run_by_plain(alloc, module, fuel, out) {
+            Ok(()) => Ok(()),
+            Err(stop) => Err(stop),
+        },
+        Action::Check => match put(ACCEPTED, out) {
+            Ok(()) => Ok(()),
+            Err(stop) => Err(stop),
+        },
     }
 }

@@ -50,7 +50,7 @@ plain_due m fuel out «end».TooDeep run means =
 
 -- ---- what is told of an end does not depend on what was printed
 
-ended_out : (out : List ℕ) (how : Ending) → (ended out how).out ≡ out
+pub ended_out : (out : List ℕ) (how : Ending) → (ended out how).out ≡ out
 ended_out out ending.Done = refl
 ended_out out (ending.Fault f) = refl
 ended_out out ending.OutOfFuel = refl
