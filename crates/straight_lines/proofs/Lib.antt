@@ -1,0 +1,5 @@
+pub mod Numbered
+pub mod UnbuiltSums
+pub mod UnbuiltStatements
+pub mod Meanings
+pub mod Sums
