@@ -3,3 +3,4 @@ pub mod UnbuiltSums
 pub mod UnbuiltStatements
 pub mod Meanings
 pub mod Sums
+pub mod Statements
