@@ -4,3 +4,4 @@ pub mod UnbuiltStatements
 pub mod Meanings
 pub mod Sums
 pub mod Statements
+pub mod Programs

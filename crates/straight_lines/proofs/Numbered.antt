@@ -57,7 +57,7 @@ numbers_next old new name count next e u valid = record {
   more = omega arith;
 }
 
-some_none : (k : ℕ) (o : Option ℕ) → o ≡ None → o ≡ Some k → ⊥
+pub some_none : (k : ℕ) (o : Option ℕ) → o ≡ None → o ≡ Some k → ⊥
 some_none k o e f = cc
 
 -- where no name has a number, each number is one name's

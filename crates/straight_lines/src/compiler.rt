@@ -20,7 +20,8 @@ pub fn compile(alloc: Global, module: &Module) -> Result<code_module::Module, No
         code: Vec::new(alloc),
         names: Names::new(alloc),
     };
-    'items: for item in module.items.as_slice() {
+    let items = module.items.as_slice();
+    'items: for item in items {
         emitter.emit_item(item)?;
     }
     let code = module_of(alloc, emitter)?;
@@ -30,8 +31,8 @@ pub fn compile(alloc: Global, module: &Module) -> Result<code_module::Module, No
 /// The module whose function 0 has this code.
 fn module_of(alloc: Global, emitter: Emitter<'_>) -> Result<code_module::Module, Memory>
     ensures texts { IfOk result (λ m. m.texts ≡ text_table) }
-    ensures globals { IfOk result (λ m. m.globals ≡ emitter.names.count) }
-    ensures code { IfOk result (λ m. IsEntry m.functions (emitter.code.items ++ end_code)) }
+    ensures globals { IfOk result (λ m. m.globals ≡ emitter.entry.names.count) }
+    ensures code { IfOk result (λ m. IsEntry m.functions (emitter.entry.code.items ++ end_code)) }
 {
     let texts = text_table(alloc)?;
     let Emitter { mut code, names } = emitter;
