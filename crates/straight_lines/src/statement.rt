@@ -54,11 +54,7 @@ impl<'t> Emitter<'t> {
     }
 
     /// Writes the code of an assignment to these targets.
-    fn emit_assignment(
-        &mut self,
-        written: &'t Targets,
-        value: &'t Expr,
-    ) -> Result<(), NotCompiled>
+    fn emit_assignment(&mut self, written: &'t Targets, value: &'t Expr) -> Result<(), NotCompiled>
         requires { AreNumbers (number_in self.old.names) self.old.names.count }
         ensures ok { OnOk result (EmitsAssignment written.now value.now self.old self.new) }
         ensures err { IfErr result (IsUnbuilt (first_of (unbuilt_in_targets written.now ∷ unbuilt_in_sum (is_numbered (number_in self.old.names)) value.now ∷ []))) }
