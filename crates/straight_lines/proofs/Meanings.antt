@@ -1,12 +1,12 @@
 -- What the expressions and statements of sources in straight lines mean, one equation a form, and what the steps of the meaning give on numbers.
-use Rattle.std.proofs.Common.{◌≡◌, ℕ, suc, ℤ, Bool, true, false, List, [], ◌∷◌, ◌++◌, Some, refl, sym, ap, ◌∙◌, codes}
+use Rattle.std.proofs.Common.{◌≡◌, ℕ, suc, ℤ, true, false, List, [], ◌∷◌, ◌++◌, Some, refl, sym, ap, ◌∙◌, codes}
 use Rattle.std.specs.Fmt.{signed_decimal}
-use Rattle.codon_base.specs.declared.value.Value.{Value, Value-F, out-Value}
+use Rattle.codon_base.specs.declared.value.Value.{Value, out-Value}
 use Rattle.codon_base.specs.declared.value.Value.TheVariants as value
-use Rattle.codon_base.specs.Walks.{Walked, going, Seen, nesting_limit}
+use Rattle.codon_base.specs.Walks.{going, Seen}
 use Rattle.codon_base.specs.declared.value.Ref.{Ref}
 use Rattle.codon_base.specs.Printed.{text_of}
-use Rattle.codon_base.specs.Operators.{Sight, whole, after_walk, made}
+use Rattle.codon_base.specs.Operators.{whole, after_walk, made}
 use Rattle.source_trees.specs.declared.node.Node.{Node}
 use Rattle.source_trees.specs.declared.operator.BinaryOp.{BinaryOp}
 use Rattle.source_trees.specs.declared.operator.BinaryOp.TheVariants as op
@@ -18,11 +18,11 @@ use Rattle.source_trees.specs.declared.statement.Target.TheVariants as target
 use Rattle.source_trees.specs.declared.expression.Expr.{Expr, Expr-F}
 use Rattle.source_trees.specs.declared.expression.Expr.TheFolds.{para-roll-Expr}
 use Rattle.source_trees.specs.declared.expression.Expr.TheVariants as e
-use Rattle.source_trees.specs.declared.statement.Stmt.{Stmt, Stmt-F}
+use Rattle.source_trees.specs.declared.statement.Stmt.{Stmt-F}
 use Rattle.source_trees.specs.declared.statement.Stmt.TheFolds.{para-roll-Stmt, fold-roll-Stmt}
 use Rattle.source_trees.specs.declared.statement.Stmt.TheVariants as d
-use Rattle.meaning_rules.specs.State.{Spelling, State, Flow, Next, assigned_to}
-use Rattle.meaning_rules.specs.Outcome.{Run, Outcome, Gives, and_then, ◌>>=◌, bind, pure, look, write, change_globals}
+use Rattle.meaning_rules.specs.State.{Spelling, State, Next, assigned_to}
+use Rattle.meaning_rules.specs.Outcome.{Run, Gives, and_then, bind, pure, look, write, change_globals}
 use Rattle.source_trees.specs.Names.{targets_names}
 use Rattle.meaning_rules.specs.Bodies.{assigned_by, assigned_step, assigned_in_arm, assigned_in_loop}
 use Rattle.meaning_rules.specs.Objects.{if_set, text_in, settled, sight}

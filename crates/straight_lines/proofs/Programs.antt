@@ -5,7 +5,6 @@ use Rattle.std.specs.List.{flat_map}
 use Rattle.codon_base.specs.declared.source.Span.{Span}
 use Rattle.codon_base.specs.declared.value.Value.{Value}
 use Rattle.codon_base.specs.declared.value.Value.TheVariants as value
-use Rattle.codon_base.specs.declared.fault.Ending.TheVariants as ending
 use Rattle.source_trees.specs.declared.statement.Stmt.{Stmt}
 use Rattle.source_trees.specs.declared.item.Item.{Item}
 use Rattle.source_trees.specs.declared.item.Item.TheVariants as item
@@ -24,8 +23,8 @@ use Rattle.code_module.specs.Machine as machine
 use Rattle.code_module.specs.Machine.{Done, run_from, run_of, entry_code}
 use Rattle.straight_lines.specs.declared.emitter.Emitter.{Emitter}
 use Rattle.straight_lines.specs.Names.{number_in, is_numbered, AreNumbers}
-use Rattle.straight_lines.specs.Built.{first_of, no_name, known_after, unbuilt_in_item, unbuilt_from, first_unbuilt}
-use Rattle.straight_lines.specs.Emitted.{text_table, end_code, run_at, of_module, Agree, IsUnbuilt, EmitsStmt, EmitsItem}
+use Rattle.straight_lines.specs.Built.{first_of, no_name, known_after, unbuilt_from}
+use Rattle.straight_lines.specs.Emitted.{text_table, end_code, run_at, of_module, Agree, EmitsStmt, EmitsItem}
 use Rattle.straight_lines.specs.Compiled.{Compiles, IsEntry}
 use Rattle.straight_lines.proofs.Numbered.{some_none, valid_none}
 use Rattle.straight_lines.proofs.Meanings.{bind_gives}

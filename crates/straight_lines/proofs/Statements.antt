@@ -27,7 +27,7 @@ use Rattle.code_module.specs.declared.instr.Instr.TheVariants as instr
 use Rattle.straight_lines.specs.declared.emitter.Emitter.{Emitter}
 use Rattle.straight_lines.specs.Names.{number_in, is_numbered, AreNumbers, Numbers}
 use Rattle.straight_lines.specs.Built.{first_of, unbuilt_in_targets, unbuilt_in_print}
-use Rattle.straight_lines.specs.Emitted.{run_at, of_module, print_code, assigned_name, Agree, EmitsSum, EmitsStmt, Performs}
+use Rattle.straight_lines.specs.Emitted.{run_at, of_module, print_code, assigned_name, Agree, EmitsSum, EmitsStmt}
 use Rattle.straight_lines.proofs.Numbered.{bytes_eq-true, bytes_eq-apart, same_number}
 use Rattle.straight_lines.proofs.UnbuiltStatements.{unbuilt_Assign, unbuilt_Print}
 use Rattle.straight_lines.proofs.Meanings.{bind_gives, stmt_Assign, stmt_Print, print_given, name_assigned, with_variable, with_printed, assigned_by_Assign, assigned_by_Print, names_assigned}

@@ -1,5 +1,5 @@
 -- The code of a sum pushes the number that the sum means.
-use Rattle.std.proofs.Common.{◌≡◌, ℕ, ℤ, Bool, true, if◌then◌else◌, is_some, List, [], ◌∷◌, ◌++◌, Option, Some, None, slice_get, refl, ap, sym, ◌∙◌, append_assoc}
+use Rattle.std.proofs.Common.{◌≡◌, ℕ, ℤ, if◌then◌else◌, is_some, List, [], ◌∷◌, ◌++◌, Option, Some, None, slice_get, refl, ap, ◌∙◌, append_assoc}
 use Rattle.codon_base.specs.declared.value.Value.{Value}
 use Rattle.codon_base.specs.declared.value.Value.TheVariants as value
 use Rattle.source_trees.specs.declared.node.Node.{Node}
@@ -18,7 +18,7 @@ use Rattle.code_module.specs.declared.instr.BinaryOp.TheVariants as operation
 use Rattle.code_module.specs.Machine.{result_of}
 use Rattle.straight_lines.specs.Names.{is_numbered}
 use Rattle.straight_lines.specs.Built.{first_of, first_at}
-use Rattle.straight_lines.specs.Emitted.{operation_of, run_at, of_module, Pushes, EmitsSum}
+use Rattle.straight_lines.specs.Emitted.{operation_of, run_at, of_module, EmitsSum}
 use Rattle.straight_lines.proofs.UnbuiltSums.{unbuilt_Name, unbuilt_Number, unbuilt_Bracketed, unbuilt_Binary}
 use Rattle.straight_lines.proofs.Meanings.{bind_gives, expr_Name, expr_Number, expr_Bracketed, expr_Binary, read_held, operator_gives, operator_is_built}
 

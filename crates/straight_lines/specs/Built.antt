@@ -14,7 +14,6 @@ use Rattle.source_trees.specs.declared.statement.Stmt.{Stmt, Stmt-F}
 use Rattle.source_trees.specs.declared.statement.Stmt.TheFolds.{fold-Stmt}
 use Rattle.source_trees.specs.declared.pipeline.PrintOptions.{PrintOptions}
 use Rattle.source_trees.specs.declared.pipeline.PrintOptions.TheVariants as options
-use Rattle.source_trees.specs.declared.pipeline.Printed.{Printed}
 use Rattle.source_trees.specs.declared.item.Item.{Item}
 use Rattle.source_trees.specs.declared.item.Item.TheVariants as item
 use Rattle.source_trees.specs.declared.item.Module.{Module}
