@@ -12,5 +12,3 @@ mod sum;
 pub use compiler::compile;
 pub use fault::NotCompiled;
 
-#[cfg(test)]
-mod tests;
