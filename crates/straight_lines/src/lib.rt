@@ -11,4 +11,3 @@ mod sum;
 
 pub use compiler::compile;
 pub use fault::NotCompiled;
-
