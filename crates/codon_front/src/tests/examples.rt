@@ -488,8 +488,9 @@ say it's a \"word\"
 /// Runs an example, and compares what it prints.
 fn expect_printed(rt: &impl Abort, alloc: Global, source: &str, out: &str) -> Result<(), Fail> {
     let words = ["plain", "a.py"];
+    let source = source.as_bytes();
     let wanted = (Status::Done, out.as_bytes(), b"".as_slice());
-    expect(rt, alloc, words.as_slice(), source.as_bytes(), NONE_FAILS, wanted)
+    expect(rt, alloc, words.as_slice(), source, NONE_FAILS, wanted)
 }
 
 #[test]

@@ -10,17 +10,17 @@ use std::test::Fail;
 fn expect_plain(
     rt: &impl Abort,
     alloc: Global,
-    source: &str,
+    source: &[u8],
     wanted: (Status, &[u8], &[u8]),
 ) -> Result<(), Fail> {
     let words = ["plain", "a.py"];
-    expect(rt, alloc, words.as_slice(), source.as_bytes(), NONE_FAILS, wanted)
+    expect(rt, alloc, words.as_slice(), source, NONE_FAILS, wanted)
 }
 
 /// Runs a source by `plain`: it ends as Done and prints this.
 fn expect_out(rt: &impl Abort, alloc: Global, source: &str, out: &str) -> Result<(), Fail> {
     let wanted = (Status::Done, out.as_bytes(), b"".as_slice());
-    expect_plain(rt, alloc, source, wanted)
+    expect_plain(rt, alloc, source.as_bytes(), wanted)
 }
 
 /// Runs a source by `plain`: it prints `out` and ends with the fault of the line `err`.
@@ -32,7 +32,7 @@ fn expect_fault(
     err: &str,
 ) -> Result<(), Fail> {
     let wanted = (Status::Fault, out.as_bytes(), err.as_bytes());
-    expect_plain(rt, alloc, source, wanted)
+    expect_plain(rt, alloc, source.as_bytes(), wanted)
 }
 
 /// Runs a source by `plain` on so much fuel.
@@ -44,17 +44,21 @@ fn expect_fueled(
     wanted: (Status, &str, &str),
 ) -> Result<(), Fail> {
     let words = ["plain", "--fuel", fuel, "a.py"];
+    let source = source.as_bytes();
     let wanted = (wanted.0, wanted.1.as_bytes(), wanted.2.as_bytes());
-    expect(rt, alloc, words.as_slice(), source.as_bytes(), NONE_FAILS, wanted)
+    expect(rt, alloc, words.as_slice(), source, NONE_FAILS, wanted)
+}
+
+/// `check` accepts a source.
+fn expect_accepted(rt: &impl Abort, alloc: Global, source: &str) -> Result<(), Fail> {
+    let words = ["check", "a.py"];
+    let source = source.as_bytes();
+    let wanted = (Status::Done, b"accepted\n".as_slice(), b"".as_slice());
+    expect(rt, alloc, words.as_slice(), source, NONE_FAILS, wanted)
 }
 
 /// `plain` and `check` refuse a source with this line.
-fn expect_refused(
-    rt: &impl Abort,
-    alloc: Global,
-    source: &[u8],
-    line: &[u8],
-) -> Result<(), Fail> {
+fn expect_refused(rt: &impl Abort, alloc: Global, source: &[u8], line: &[u8]) -> Result<(), Fail> {
     let plain = ["plain", "a.py"];
     let check = ["check", "a.py"];
     let wanted = (Status::Refused, b"".as_slice(), line);
@@ -82,10 +86,9 @@ fn numbers_wrap_and_values_are_printed(rt: HostRuntime) -> Result<(), Fail> {
         b"[1] (3,) a ['a', \"it's\"] True None\n".as_slice(),
         b"[1]\n".as_slice(),
     ];
-    let words = ["plain", "a.py"];
     for (source, out) in sources.iter().zip(outs.iter()) {
         let wanted = (Status::Done, *out, b"".as_slice());
-        expect(&rt, rt.alloc(), words.as_slice(), *source, NONE_FAILS, wanted)?;
+        expect_plain(&rt, rt.alloc(), *source, wanted)?;
     }
     Ok(())
 }
@@ -259,9 +262,7 @@ fn parallel_loops(rt: HostRuntime) -> Result<(), Fail> {
     expect_out(&rt, alloc, LEAST_OF_NONE, "5\n")?;
     expect_out(&rt, alloc, LEAST_OF_THREE, "1\n")?;
     expect_out(&rt, alloc, STEPS, "118\n")?;
-    let words = ["check", "a.py"];
-    let wanted = (Status::Done, b"accepted\n".as_slice(), b"".as_slice());
-    expect(&rt, alloc, words.as_slice(), STEPS.as_bytes(), NONE_FAILS, wanted)
+    expect_accepted(&rt, alloc, STEPS)
 }
 
 const FIRST_FAULT_IN_ORDER: &str = "\
@@ -345,15 +346,18 @@ print(f(200))
 #[test]
 fn fuel_and_depth_end_runs(rt: HostRuntime) -> Result<(), Fail> {
     let alloc = rt.alloc();
+    let counted = (Status::Done, "0\n1\n2\n", "");
+    let cut_off = (Status::OutOfFuel, "0\n1\n", "out of fuel\n");
+    expect_fueled(&rt, alloc, "3", COUNT, counted)?;
+    expect_fueled(&rt, alloc, "2", COUNT, cut_off)?;
     let done = (Status::Done, "", "");
     let ended = (Status::OutOfFuel, "", "out of fuel\n");
-    expect_fueled(&rt, alloc, "3", COUNT, (Status::Done, "0\n1\n2\n", ""))?;
-    expect_fueled(&rt, alloc, "2", COUNT, (Status::OutOfFuel, "0\n1\n", "out of fuel\n"))?;
     expect_fueled(&rt, alloc, "3", CALLS_IN_ITERATIONS, ended)?;
     expect_fueled(&rt, alloc, "4", CALLS_IN_ITERATIONS, done)?;
     expect_fueled(&rt, alloc, "3", EMPTY_ITERATIONS, done)?;
     expect_fueled(&rt, alloc, "2", EMPTY_ITERATIONS, ended)?;
-    expect_plain(&rt, alloc, DEEP, (Status::Deep, b"", b"too deep\n"))
+    let source = DEEP.as_bytes();
+    expect_plain(&rt, alloc, source, (Status::Deep, b"", b"too deep\n"))
 }
 
 #[test]
