@@ -16,7 +16,12 @@ use std::alloc::Global;
 const MOST_DEPTH: u32 = 100;
 
 /// Runs a tree by the interpreter of trees on so many ticks, and writes what it prints.
-pub fn run_by_plain<O: Sink>(alloc: Global, module: &Module, fuel: u64, out: &mut O) -> Result<(), Stop>
+pub fn run_by_plain<O: Sink>(
+    alloc: Global,
+    module: &Module,
+    fuel: u64,
+    out: &mut O,
+) -> Result<(), Stop>
     ensures done { OnOk result (Finishes (IsPlainDue «module».now fuel) (O.written out.old) (O.written out.new)) }
     ensures stopped { IfErr result (StopsBy (IsPlainDue «module».now fuel) (O.written out.old) (O.written out.new) (O.faults out.old) (O.faults out.new)) }
     ensures later { O.faults out.old ≤ O.faults out.new }

@@ -17,11 +17,20 @@ pub fn lex_line(alloc: Global, why: &LexRefusal) -> Result<Vec<u8>, Memory>
 }
 
 /// The line on err that tells why the tokens of a text have no tree.
-pub fn parse_line(alloc: Global, text: &[u8], tokens: &Tokens, why: &ParseRefusal) -> Result<Vec<u8>, Memory>
+pub fn parse_line(
+    alloc: Global,
+    text: &[u8],
+    tokens: &Tokens,
+    why: &ParseRefusal,
+) -> Result<Vec<u8>, Memory>
     ensures { IfOk result (λ line. line.items ≡ parse_line text.now tokens.now why.now) }
 {
     let mut line = refusal(alloc, parse_code(why.kind), why.at, parse_name(why.kind))?;
-    push_detail(&mut line, why.kind, shown_at(text, tokens.get(why.token as usize)))?;
+    push_detail(
+        &mut line,
+        why.kind,
+        shown_at(text, tokens.get(why.token as usize)),
+    )?;
     line.push(b'\n')?;
     Ok(line)
 }

@@ -15,7 +15,12 @@ use std::alloc::Global;
 const ACCEPTED: &[u8] = b"accepted\n";
 
 /// Does with a tree what a command asks, and writes to out what is due there.
-pub fn run_tree<O: Sink>(alloc: Global, action: Action, module: &Module, out: &mut O) -> Result<(), Stop>
+pub fn run_tree<O: Sink>(
+    alloc: Global,
+    action: Action,
+    module: &Module,
+    out: &mut O,
+) -> Result<(), Stop>
     ensures done { OnOk result (Finishes (IsDueOfTree «module».now action) (O.written out.old) (O.written out.new)) }
     ensures stopped { IfErr result (StopsBy (IsDueOfTree «module».now action) (O.written out.old) (O.written out.new) (O.faults out.old) (O.faults out.new)) }
     ensures later { O.faults out.old ≤ O.faults out.new }

@@ -21,9 +21,10 @@ pub returns-in-Ok-run-clause-done : goal.returns-in-Ok-run-clause-done
 returns-in-Ok-run-clause-done g c = λ fuel. compiled_done c.args.module.now c.in-Ok.code fuel c.in-Ok.ensures.program _ _ c.in-Ok-run.ensures.written
 
 pub returns-in-Err-Sink-clause-stopped : goal.returns-in-Err-Sink-clause-stopped
-returns-in-Err-Sink-clause-stopped g c = λ fuel.
-    (subst (IsRunStopOf (run_of c.in-Ok.code) (g.O.Sink.faults c.args.out.now) (g.O.Sink.faults c.run.new.out)) c.in-Err-Sink.field-0-is c.in-Err-Sink.ensures.cause,
-    compiled_front c.args.module.now c.in-Ok.code fuel c.in-Ok.ensures.program _ _ c.in-Err-Sink.ensures.partly)
+returns-in-Err-Sink-clause-stopped g c = λ fuel. (
+  subst (IsRunStopOf (run_of c.in-Ok.code) (g.O.Sink.faults c.args.out.now) (g.O.Sink.faults c.run.new.out)) c.in-Err-Sink.field-0-is c.in-Err-Sink.ensures.cause,
+  compiled_front c.args.module.now c.in-Ok.code fuel c.in-Ok.ensures.program _ _ c.in-Err-Sink.ensures.partly,
+)
 
 pub returns-clause-stopped : goal.returns-clause-stopped
 returns-clause-stopped g c = λ fuel. compiled_front c.args.module.now c.in-Ok.code fuel c.in-Ok.ensures.program _ _ c.in-Err-Memory-run.ensures.partly
