@@ -1,5 +1,5 @@
 -- What a stop owes for a part of what is due, it owes for the whole.
-use Rattle.std.proofs.Common.{◌≡◌, ℕ, List, Option, inl, inr}
+use Rattle.std.proofs.Common.{ℕ, List, Option, inl, inr}
 use Rattle.outer_world.specs.declared.status.Status.{Status}
 use Rattle.codon_front.specs.Due.{Due}
 use Rattle.codon_front.specs.Answer.{GainsOutFront}

@@ -1,23 +1,17 @@
 -- One thing is due for a text and a command, and one only.
-use Rattle.std.proofs.Common.{◌≡◌, ◌⊎◌, ℕ, ◌≤◌, List, [], ◌++◌, Option, Some, None, length, subst, sym, refl, ap, ◌∙◌, inl, inr, arith}
+use Rattle.std.proofs.Common.{◌≡◌, ◌⊎◌, ℕ, ◌≤◌, List, Some, None, length, subst, sym, ap, ◌∙◌, inl, inr, arith}
 use Rattle.outer_world.specs.Files.{Told, Absent, Held, MayHold, IsLonger}
 use Rattle.outer_world.specs.declared.status.Status.TheVariants as status
-use Rattle.codon_base.specs.declared.source.Span.{Span}
 use Rattle.indent_lexer.specs.declared.token.Token.{Token}
-use Rattle.indent_lexer.specs.declared.token.LexRefusal.{LexRefusal}
-use Rattle.indent_lexer.specs.Tokens.{Tokens}
 use Rattle.indent_lexer.proofs.OneReading.{lists, apart, refusals}
 use Rattle.source_trees.specs.declared.item.Module.{Module}
-use Rattle.grammar_rules.specs.declared.refusal.ParseRefusal.{ParseRefusal}
 use Rattle.grammar_rules.specs.Modules.{Source, Tree}
 use Rattle.grammar_rules.specs.Refusals.{IsParsePlace}
-use Rattle.meaning_rules.specs.State.{State, Stop, TooDeep}
-use Rattle.meaning_rules.specs.Outcome.{Outcome, Stops}
-use Rattle.meaning_rules.specs.Meaning.{outcome}
-use Rattle.straight_lines.specs.Built.{first_unbuilt}
+use Rattle.meaning_rules.specs.State.{TooDeep}
+use Rattle.meaning_rules.specs.Outcome.{Stops}
 use Rattle.codon_front.specs.Command.{Command}
 use Rattle.codon_front.specs.Refusals.{lex_line, parse_line, unbuilt_line, too_long_line}
-use Rattle.codon_front.specs.Due.{Due, IsPlainDue, EntersMore, IsDueOfTree, IsRefusedWith, IsDueOfText, IsDue, most_depth, deep_line, refused, source_limit}
+use Rattle.codon_front.specs.Due.{Due, IsPlainDue, EntersMore, IsDueOfTree, IsRefusedWith, IsDueOfText, IsDue, deep_line, refused, source_limit}
 use Rattle.codon_front.proofs.Parsing.{apart_tree, only_tree, one_place}
 use Rattle.codon_front.specs.declared.command.Action.{Action}
 use Rattle.codon_front.specs.declared.command.Action.TheVariants.{Run, Plain, Check}

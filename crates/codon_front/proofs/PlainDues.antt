@@ -1,16 +1,16 @@
 -- What is due for a run by the interpreter of trees, from what the interpreter answers.
-use Rattle.std.proofs.Common.{◌≡◌, ℕ, List, [], ◌++◌, Option, subst, sym, refl, ap, ◌∙◌, inl, inr}
+use Rattle.std.proofs.Common.{◌≡◌, ℕ, List, [], Option, subst, sym, refl, ap, ◌∙◌, inl, inr}
 use Rattle.codon_base.specs.declared.fault.Ending.{Ending}
 use Rattle.codon_base.specs.declared.fault.Ending.TheVariants as ending
 use Rattle.outer_world.specs.Sink.{gained, GainsPrefix}
 use Rattle.source_trees.specs.declared.item.Module.{Module}
-use Rattle.meaning_rules.specs.State.{State, Stop, Faulted, OutOfFuel, TooDeep, Flow}
+use Rattle.meaning_rules.specs.State.{State, Faulted, OutOfFuel, TooDeep, Flow}
 use Rattle.meaning_rules.specs.Outcome.{Outcome, Gives, Stops}
-use Rattle.meaning_rules.specs.Meaning.{Meaning, meaning, outcome}
+use Rattle.meaning_rules.specs.Meaning.{meaning, outcome}
 use Rattle.plain_interpreter.specs.Plain.{IsRun, IsMeant}
 use Rattle.plain_interpreter.specs.declared.plain.PlainEnd.{PlainEnd}
 use Rattle.plain_interpreter.specs.declared.plain.PlainEnd.TheVariants as «end»
-use Rattle.codon_front.specs.Due.{Due, IsPlainDue, EntersMore, ended, most_depth}
+use Rattle.codon_front.specs.Due.{Due, IsPlainDue, ended, most_depth}
 use Rattle.codon_front.specs.Plain.{due_of_end, IsQuietEnd, IsEndStopOf}
 use Rattle.codon_front.specs.Stop.{Finishes, StopsBy, IsPutStopOf}
 use Rattle.codon_front.specs.declared.report.Stop as code

@@ -1,13 +1,12 @@
 -- What is due for a tree that is compiled and run.
-use Rattle.std.proofs.Common.{◌≡◌, ℕ, List, [], Option, subst, sym, refl, ap, ◌∙◌, inl, inr}
+use Rattle.std.proofs.Common.{◌≡◌, ℕ, List, Option, subst, sym, refl, ap, ◌∙◌, inl, inr}
 use Rattle.outer_world.specs.Sink.{gained, GainsPrefix}
-use Rattle.outer_world.specs.declared.status.Status.TheVariants as status
 use Rattle.source_trees.specs.declared.item.Module.{Module}
 use Rattle.code_module.specs.declared.module.Module.{Module as Code}
 use Rattle.code_module.specs.Machine.{run_of, out_of}
 use Rattle.meaning_rules.specs.Meaning.{meaning}
 use Rattle.straight_lines.specs.Compiled.{Compiles}
-use Rattle.codon_front.specs.Due.{Due, IsDueOfTree, due_of, ended}
+use Rattle.codon_front.specs.Due.{IsDueOfTree, due_of, ended}
 use Rattle.codon_front.specs.Answer.{GainsOutFront}
 use Rattle.codon_front.specs.Stop.{Finishes}
 use Rattle.codon_front.specs.declared.command.Action.TheVariants.{Run}

@@ -2,7 +2,7 @@
 use Rattle.std.proofs.Common.{ℕ, List, Option, sym, refl, inl, inr}
 use Rattle.source_trees.specs.declared.item.Module.{Module}
 use Rattle.grammar_rules.specs.Modules.{Source}
-use Rattle.codon_front.specs.Due.{Due, IsDueOfTree, IsDueOfText, refused}
+use Rattle.codon_front.specs.Due.{IsDueOfTree, IsDueOfText, refused}
 use Rattle.codon_front.specs.Stop.{StopsBy, IsNoTreeOf}
 use Rattle.codon_front.specs.declared.command.Action.{Action}
 use Rattle.codon_front.specs.declared.report.Stop.{Stop}

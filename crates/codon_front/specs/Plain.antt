@@ -1,7 +1,5 @@
 -- What is due for a run by the interpreter of trees that printed these bytes and ended so.
 use Rattle.std.specs.Prelude.{◌≡◌, ℕ, List, []}
-use Rattle.codon_base.specs.declared.fault.Ending.{Ending}
-use Rattle.outer_world.specs.declared.status.Status.{Status}
 use Rattle.outer_world.specs.declared.status.Status.TheVariants as status
 use Rattle.plain_interpreter.specs.declared.plain.PlainEnd.{PlainEnd}
 use Rattle.plain_interpreter.specs.declared.plain.PlainEnd.TheVariants as «end»

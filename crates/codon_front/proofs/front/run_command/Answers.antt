@@ -1,4 +1,4 @@
-use Rattle.std.proofs.Common.{subst, sym, ap}
+use Rattle.std.proofs.Common.{subst}
 use Rattle.codon_front.specs.Seen.{seen_command}
 use Rattle.codon_front.specs.Due.{IsDueOfText}
 use Rattle.codon_front.specs.Stop.{Finishes, StopsBy}

@@ -2,4 +2,4 @@ use Rattle.codon_front.proofs.OneDue.{one_of_text}
 use Rattle.codon_front.proofs.laws.law_of_dues.Goals as goal
 
 pub returns : goal.returns
-returns c = one_of_text
+returns c = record { one = one_of_text }
