@@ -45,7 +45,7 @@ use Rattle.source_trees.specs.Bare.{bare, bare_name, bare_loop_names, bare_expr,
 use Rattle.source_trees.specs.Heights.{highest, over_parts, height_of_expr, height_of_annotation, height_of_target, height_of_targets, height_of_stage, height_of_stmt, height_of_for, height_of_param, height_of_function, height_of_member, height_of_class, height_of_item, height_of}
 use Rattle.source_trees.specs.Parts.{optional, of_name, of_loop_names, of_comparison, of_optional_expr, of_optional_annotation, of_print_options, of_printed, of_stage_form, of_arm}
 use Rattle.source_trees.proofs.Equations as q
-use Rattle.bare_trees.proofs.BareForms as shape
+use Rattle.source_trees.proofs.BareForms as shape
 use Rattle.bare_trees.proofs.Restore.{Each, each_by}
 
 -- ---- lists of heights
@@ -89,70 +89,70 @@ option_same None h = refl
 option_same (Some x) h = single h
 
 case_Name : (n : Node) (s : List ℕ) → SameExpr (expr.Name n s)
-case_Name n s = ap height_of_expr (shape.bare_Name n s) ∙ q.expr_Name over_parts (bare n) s ∙ sym (q.expr_Name over_parts n s)
+case_Name n s = ap height_of_expr (shape.expr_Name n s) ∙ q.expr_Name over_parts (bare n) s ∙ sym (q.expr_Name over_parts n s)
 
 case_Number : (n : Node) (s : ℤ) → SameExpr (expr.Number n s)
-case_Number n s = ap height_of_expr (shape.bare_Number n s) ∙ q.expr_Number over_parts (bare n) s ∙ sym (q.expr_Number over_parts n s)
+case_Number n s = ap height_of_expr (shape.expr_Number n s) ∙ q.expr_Number over_parts (bare n) s ∙ sym (q.expr_Number over_parts n s)
 
 case_Text : (n : Node) (s : List ℕ) → SameExpr (expr.Text n s)
-case_Text n s = ap height_of_expr (shape.bare_Text n s) ∙ q.expr_Text over_parts (bare n) s ∙ sym (q.expr_Text over_parts n s)
+case_Text n s = ap height_of_expr (shape.expr_Text n s) ∙ q.expr_Text over_parts (bare n) s ∙ sym (q.expr_Text over_parts n s)
 
 case_True : (n : Node) → SameExpr (expr.True n)
-case_True n = ap height_of_expr (shape.bare_True n) ∙ q.expr_True over_parts (bare n) ∙ sym (q.expr_True over_parts n)
+case_True n = ap height_of_expr (shape.expr_True n) ∙ q.expr_True over_parts (bare n) ∙ sym (q.expr_True over_parts n)
 
 case_False : (n : Node) → SameExpr (expr.False n)
-case_False n = ap height_of_expr (shape.bare_False n) ∙ q.expr_False over_parts (bare n) ∙ sym (q.expr_False over_parts n)
+case_False n = ap height_of_expr (shape.expr_False n) ∙ q.expr_False over_parts (bare n) ∙ sym (q.expr_False over_parts n)
 
 case_None : (n : Node) → SameExpr (expr.None n)
-case_None n = ap height_of_expr (shape.bare_None n) ∙ q.expr_None over_parts (bare n) ∙ sym (q.expr_None over_parts n)
+case_None n = ap height_of_expr (shape.expr_None n) ∙ q.expr_None over_parts (bare n) ∙ sym (q.expr_None over_parts n)
 
 case_Bracketed : (n : Node) (x : Expr) → SameExpr x → SameExpr (expr.Bracketed n x)
-case_Bracketed n x hx = ap height_of_expr (shape.bare_Bracketed n x) ∙ q.expr_Bracketed over_parts (bare n) (bare_expr x) ∙ ap over (single hx) ∙ sym (q.expr_Bracketed over_parts n x)
+case_Bracketed n x hx = ap height_of_expr (shape.expr_Bracketed n x) ∙ q.expr_Bracketed over_parts (bare n) (bare_expr x) ∙ ap over (single hx) ∙ sym (q.expr_Bracketed over_parts n x)
 
 case_Tuple : (n : Node) (c : Commas) (xs : List Expr) → Each SameExpr xs → SameExpr (expr.Tuple n c xs)
-case_Tuple n c xs hxs = ap height_of_expr (shape.bare_Tuple n c xs) ∙ q.expr_Tuple over_parts (bare n) c (map bare_expr xs) ∙ ap over (map_same height_of_expr bare_expr xs hxs) ∙ sym (q.expr_Tuple over_parts n c xs)
+case_Tuple n c xs hxs = ap height_of_expr (shape.expr_Tuple n c xs) ∙ q.expr_Tuple over_parts (bare n) c (map bare_expr xs) ∙ ap over (map_same height_of_expr bare_expr xs hxs) ∙ sym (q.expr_Tuple over_parts n c xs)
 
 case_List : (n : Node) (xs : List Expr) → Each SameExpr xs → SameExpr (expr.List n xs)
-case_List n xs hxs = ap height_of_expr (shape.bare_List n xs) ∙ q.expr_List over_parts (bare n) (map bare_expr xs) ∙ ap over (map_same height_of_expr bare_expr xs hxs) ∙ sym (q.expr_List over_parts n xs)
+case_List n xs hxs = ap height_of_expr (shape.expr_List n xs) ∙ q.expr_List over_parts (bare n) (map bare_expr xs) ∙ ap over (map_same height_of_expr bare_expr xs hxs) ∙ sym (q.expr_List over_parts n xs)
 
 case_Comprehension : (n : Node) (x : Expr) (ns : LoopNames) (y : Expr) (z : Option Expr) → SameExpr x → SameExpr y → SameOption z → SameExpr (expr.Comprehension n x ns y z)
-case_Comprehension n x ns y z hx hy hz = ap height_of_expr (shape.bare_Comprehension n x ns y z) ∙ q.expr_Comprehension over_parts (bare n) (bare_expr x) (bare_loop_names ns) (bare_expr y) (bare_optional bare_expr z) ∙ ap over (join (single hx) (join (loop_same ns) (join (single hy) (option_same z hz)))) ∙ sym (q.expr_Comprehension over_parts n x ns y z)
+case_Comprehension n x ns y z hx hy hz = ap height_of_expr (shape.expr_Comprehension n x ns y z) ∙ q.expr_Comprehension over_parts (bare n) (bare_expr x) (bare_loop_names ns) (bare_expr y) (bare_optional bare_expr z) ∙ ap over (join (single hx) (join (loop_same ns) (join (single hy) (option_same z hz)))) ∙ sym (q.expr_Comprehension over_parts n x ns y z)
 
 case_Conditional : (n : Node) (x : Expr) (y : Expr) (z : Expr) → SameExpr x → SameExpr y → SameExpr z → SameExpr (expr.Conditional n x y z)
-case_Conditional n x y z hx hy hz = ap height_of_expr (shape.bare_Conditional n x y z) ∙ q.expr_Conditional over_parts (bare n) (bare_expr x) (bare_expr y) (bare_expr z) ∙ ap over (join (single hx) (join (single hy) (single hz))) ∙ sym (q.expr_Conditional over_parts n x y z)
+case_Conditional n x y z hx hy hz = ap height_of_expr (shape.expr_Conditional n x y z) ∙ q.expr_Conditional over_parts (bare n) (bare_expr x) (bare_expr y) (bare_expr z) ∙ ap over (join (single hx) (join (single hy) (single hz))) ∙ sym (q.expr_Conditional over_parts n x y z)
 
 case_Or : (n : Node) (xs : List Expr) → Each SameExpr xs → SameExpr (expr.Or n xs)
-case_Or n xs hxs = ap height_of_expr (shape.bare_Or n xs) ∙ q.expr_Or over_parts (bare n) (map bare_expr xs) ∙ ap over (map_same height_of_expr bare_expr xs hxs) ∙ sym (q.expr_Or over_parts n xs)
+case_Or n xs hxs = ap height_of_expr (shape.expr_Or n xs) ∙ q.expr_Or over_parts (bare n) (map bare_expr xs) ∙ ap over (map_same height_of_expr bare_expr xs hxs) ∙ sym (q.expr_Or over_parts n xs)
 
 case_And : (n : Node) (xs : List Expr) → Each SameExpr xs → SameExpr (expr.And n xs)
-case_And n xs hxs = ap height_of_expr (shape.bare_And n xs) ∙ q.expr_And over_parts (bare n) (map bare_expr xs) ∙ ap over (map_same height_of_expr bare_expr xs hxs) ∙ sym (q.expr_And over_parts n xs)
+case_And n xs hxs = ap height_of_expr (shape.expr_And n xs) ∙ q.expr_And over_parts (bare n) (map bare_expr xs) ∙ ap over (map_same height_of_expr bare_expr xs hxs) ∙ sym (q.expr_And over_parts n xs)
 
 case_Not : (n : Node) (x : Expr) → SameExpr x → SameExpr (expr.Not n x)
-case_Not n x hx = ap height_of_expr (shape.bare_Not n x) ∙ q.expr_Not over_parts (bare n) (bare_expr x) ∙ ap over (single hx) ∙ sym (q.expr_Not over_parts n x)
+case_Not n x hx = ap height_of_expr (shape.expr_Not n x) ∙ q.expr_Not over_parts (bare n) (bare_expr x) ∙ ap over (single hx) ∙ sym (q.expr_Not over_parts n x)
 
 case_Compare : (n : Node) (x : Expr) (cs : List Comparison) → SameExpr x → Each SameComparison cs → SameExpr (expr.Compare n x cs)
-case_Compare n x cs hx hcs = ap height_of_expr (shape.bare_Compare n x cs) ∙ q.expr_Compare over_parts (bare n) (bare_expr x) (map bare_comparison cs) ∙ ap over (join (single hx) (map_same (of_comparison over_parts) bare_comparison cs hcs)) ∙ sym (q.expr_Compare over_parts n x cs)
+case_Compare n x cs hx hcs = ap height_of_expr (shape.expr_Compare n x cs) ∙ q.expr_Compare over_parts (bare n) (bare_expr x) (map bare_comparison cs) ∙ ap over (join (single hx) (map_same (of_comparison over_parts) bare_comparison cs hcs)) ∙ sym (q.expr_Compare over_parts n x cs)
 
 case_Unary : (n : Node) (o : UnaryOp) (x : Expr) → SameExpr x → SameExpr (expr.Unary n o x)
-case_Unary n o x hx = ap height_of_expr (shape.bare_Unary n o x) ∙ q.expr_Unary over_parts (bare n) o (bare_expr x) ∙ ap over (single hx) ∙ sym (q.expr_Unary over_parts n o x)
+case_Unary n o x hx = ap height_of_expr (shape.expr_Unary n o x) ∙ q.expr_Unary over_parts (bare n) o (bare_expr x) ∙ ap over (single hx) ∙ sym (q.expr_Unary over_parts n o x)
 
 case_Binary : (n : Node) (o : BinaryOp) (x : Expr) (y : Expr) → SameExpr x → SameExpr y → SameExpr (expr.Binary n o x y)
-case_Binary n o x y hx hy = ap height_of_expr (shape.bare_Binary n o x y) ∙ q.expr_Binary over_parts (bare n) o (bare_expr x) (bare_expr y) ∙ ap over (join (single hx) (single hy)) ∙ sym (q.expr_Binary over_parts n o x y)
+case_Binary n o x y hx hy = ap height_of_expr (shape.expr_Binary n o x y) ∙ q.expr_Binary over_parts (bare n) o (bare_expr x) (bare_expr y) ∙ ap over (join (single hx) (single hy)) ∙ sym (q.expr_Binary over_parts n o x y)
 
 case_Call : (n : Node) (f : Name) (xs : List Expr) → Each SameExpr xs → SameExpr (expr.Call n f xs)
-case_Call n f xs hxs = ap height_of_expr (shape.bare_Call n f xs) ∙ q.expr_Call over_parts (bare n) (bare_name f) (map bare_expr xs) ∙ ap over (join (single {k = 1} refl) (map_same height_of_expr bare_expr xs hxs)) ∙ sym (q.expr_Call over_parts n f xs)
+case_Call n f xs hxs = ap height_of_expr (shape.expr_Call n f xs) ∙ q.expr_Call over_parts (bare n) (bare_name f) (map bare_expr xs) ∙ ap over (join (single {k = 1} refl) (map_same height_of_expr bare_expr xs hxs)) ∙ sym (q.expr_Call over_parts n f xs)
 
 case_MethodCall : (n : Node) (m : Node) (x : Expr) (s : List ℕ) (xs : List Expr) → SameExpr x → Each SameExpr xs → SameExpr (expr.MethodCall n m x s xs)
-case_MethodCall n m x s xs hx hxs = ap height_of_expr (shape.bare_MethodCall n m x s xs) ∙ q.expr_MethodCall over_parts (bare n) (bare m) (bare_expr x) s (map bare_expr xs) ∙ ap over (join (single (ap over (single hx))) (map_same height_of_expr bare_expr xs hxs)) ∙ sym (q.expr_MethodCall over_parts n m x s xs)
+case_MethodCall n m x s xs hx hxs = ap height_of_expr (shape.expr_MethodCall n m x s xs) ∙ q.expr_MethodCall over_parts (bare n) (bare m) (bare_expr x) s (map bare_expr xs) ∙ ap over (join (single (ap over (single hx))) (map_same height_of_expr bare_expr xs hxs)) ∙ sym (q.expr_MethodCall over_parts n m x s xs)
 
 case_Index : (n : Node) (x : Expr) (y : Expr) → SameExpr x → SameExpr y → SameExpr (expr.Index n x y)
-case_Index n x y hx hy = ap height_of_expr (shape.bare_Index n x y) ∙ q.expr_Index over_parts (bare n) (bare_expr x) (bare_expr y) ∙ ap over (join (single hx) (single hy)) ∙ sym (q.expr_Index over_parts n x y)
+case_Index n x y hx hy = ap height_of_expr (shape.expr_Index n x y) ∙ q.expr_Index over_parts (bare n) (bare_expr x) (bare_expr y) ∙ ap over (join (single hx) (single hy)) ∙ sym (q.expr_Index over_parts n x y)
 
 case_Slice : (n : Node) (x : Expr) (y : Option Expr) (z : Option Expr) → SameExpr x → SameOption y → SameOption z → SameExpr (expr.Slice n x y z)
-case_Slice n x y z hx hy hz = ap height_of_expr (shape.bare_Slice n x y z) ∙ q.expr_Slice over_parts (bare n) (bare_expr x) (bare_optional bare_expr y) (bare_optional bare_expr z) ∙ ap over (join (single hx) (join (option_same y hy) (option_same z hz))) ∙ sym (q.expr_Slice over_parts n x y z)
+case_Slice n x y z hx hy hz = ap height_of_expr (shape.expr_Slice n x y z) ∙ q.expr_Slice over_parts (bare n) (bare_expr x) (bare_optional bare_expr y) (bare_optional bare_expr z) ∙ ap over (join (single hx) (join (option_same y hy) (option_same z hz))) ∙ sym (q.expr_Slice over_parts n x y z)
 
 case_Field : (n : Node) (x : Expr) (s : List ℕ) → SameExpr x → SameExpr (expr.Field n x s)
-case_Field n x s hx = ap height_of_expr (shape.bare_Field n x s) ∙ q.expr_Field over_parts (bare n) (bare_expr x) s ∙ ap over (single hx) ∙ sym (q.expr_Field over_parts n x s)
+case_Field n x s hx = ap height_of_expr (shape.expr_Field n x s) ∙ q.expr_Field over_parts (bare n) (bare_expr x) s ∙ ap over (single hx) ∙ sym (q.expr_Field over_parts n x s)
 
 abbrev Part : Type 0
 Part = (x : Expr) × SameExpr x
@@ -224,25 +224,25 @@ abbrev SameType : Annotation → Type 0
 SameType x = height_of_annotation (bare_annotation x) ≡ height_of_annotation x
 
 type_Int : (n : Node) → SameType (annotation.Int n)
-type_Int n = ap height_of_annotation (shape.type_Int n) ∙ q.annotation_Int over_parts (bare n) ∙ sym (q.annotation_Int over_parts n)
+type_Int n = ap height_of_annotation (shape.annotation_Int n) ∙ q.annotation_Int over_parts (bare n) ∙ sym (q.annotation_Int over_parts n)
 
 type_Bool : (n : Node) → SameType (annotation.Bool n)
-type_Bool n = ap height_of_annotation (shape.type_Bool n) ∙ q.annotation_Bool over_parts (bare n) ∙ sym (q.annotation_Bool over_parts n)
+type_Bool n = ap height_of_annotation (shape.annotation_Bool n) ∙ q.annotation_Bool over_parts (bare n) ∙ sym (q.annotation_Bool over_parts n)
 
 type_Str : (n : Node) → SameType (annotation.Str n)
-type_Str n = ap height_of_annotation (shape.type_Str n) ∙ q.annotation_Str over_parts (bare n) ∙ sym (q.annotation_Str over_parts n)
+type_Str n = ap height_of_annotation (shape.annotation_Str n) ∙ q.annotation_Str over_parts (bare n) ∙ sym (q.annotation_Str over_parts n)
 
 type_None : (n : Node) → SameType (annotation.None n)
-type_None n = ap height_of_annotation (shape.type_None n) ∙ q.annotation_None over_parts (bare n) ∙ sym (q.annotation_None over_parts n)
+type_None n = ap height_of_annotation (shape.annotation_None n) ∙ q.annotation_None over_parts (bare n) ∙ sym (q.annotation_None over_parts n)
 
 type_Class : (n : Node) (s : List ℕ) → SameType (annotation.Class n s)
-type_Class n s = ap height_of_annotation (shape.type_Class n s) ∙ q.annotation_Class over_parts (bare n) s ∙ sym (q.annotation_Class over_parts n s)
+type_Class n s = ap height_of_annotation (shape.annotation_Class n s) ∙ q.annotation_Class over_parts (bare n) s ∙ sym (q.annotation_Class over_parts n s)
 
 type_List : (n : Node) (x : Annotation) → SameType x → SameType (annotation.List n x)
-type_List n x h = ap height_of_annotation (shape.type_List n x) ∙ q.annotation_List over_parts (bare n) (bare_annotation x) ∙ ap over (single h) ∙ sym (q.annotation_List over_parts n x)
+type_List n x h = ap height_of_annotation (shape.annotation_List n x) ∙ q.annotation_List over_parts (bare n) (bare_annotation x) ∙ ap over (single h) ∙ sym (q.annotation_List over_parts n x)
 
 type_Tuple : (n : Node) (xs : List Annotation) → Each SameType xs → SameType (annotation.Tuple n xs)
-type_Tuple n xs h = ap height_of_annotation (shape.type_Tuple n xs) ∙ q.annotation_Tuple over_parts (bare n) (map bare_annotation xs) ∙ ap over (map_same height_of_annotation bare_annotation xs h) ∙ sym (q.annotation_Tuple over_parts n xs)
+type_Tuple n xs h = ap height_of_annotation (shape.annotation_Tuple n xs) ∙ q.annotation_Tuple over_parts (bare n) (map bare_annotation xs) ∙ ap over (map_same height_of_annotation bare_annotation xs h) ∙ sym (q.annotation_Tuple over_parts n xs)
 
 abbrev TypePart : Type 0
 TypePart = (x : Annotation) × SameType x

@@ -53,8 +53,8 @@ use Rattle.grammar_rules.specs.Statements.{IsLine, IsStmt, IsArms, IsElse, IsFor
 use Rattle.grammar_rules.specs.Types as t
 use Rattle.grammar_rules.specs.Types.{IsType, IsTypes}
 use Rattle.grammar_rules.specs.Words.{name_of, name_at, named_by, node_at}
-use Rattle.bare_trees.proofs.BareForms as f
-use Rattle.bare_trees.proofs.BareForms.{node_bare}
+use Rattle.source_trees.proofs.BareForms as f
+use Rattle.bare_trees.proofs.BareNodes.{node_bare}
 
 -- ---- equalities of parts
 
@@ -110,21 +110,21 @@ names_bare a w k =
 -- ---- expressions
 
 joined_form : (j : Junction) (n : Node) (ys : List Expr) → bare n ≡ n → map bare_expr ys ≡ ys → bare_expr (joined j n ys) ≡ joined j n ys
-joined_form junction.Or n ys p q = f.bare_Or n ys ∙ both x.Or p q
-joined_form junction.And n ys p q = f.bare_And n ys ∙ both x.And p q
+joined_form junction.Or n ys p q = f.expr_Or n ys ∙ both x.Or p q
+joined_form junction.And n ys p q = f.expr_And n ys ∙ both x.And p q
 
 comparison_here : (c : Comparison) → bare_expr c.right ≡ c.right → bare_comparison c ≡ c
 comparison_here c p = f.comparison_is c ∙ ap (λ z. record { comparator = c.comparator; right = z }) p
 
 binary_form : (y : Expr) (o : BinaryOp) (z : Expr) → bare_expr y ≡ y → bare_expr z ≡ z → bare_expr (x.Binary (node_of y) o y z) ≡ x.Binary (node_of y) o y z
-binary_form y o z p q = f.bare_Binary (node_of y) o y z ∙ three (λ n v w. x.Binary n o v w) (node_here y p) p q
+binary_form y o z p q = f.expr_Binary (node_of y) o y z ∙ three (λ n v w. x.Binary n o v w) (node_here y p) p q
 
 mutual
   pub expr_bare : (a : List Token) (y : Expr) → IsExpr a y → bare_expr y ≡ y
   expr_bare _ _ (e.plain a y p) = joined_by junction.Or a y p
   expr_bare _ _ (e.conditional a y u c z v d w p h q i r) =
       let k = joined_by junction.Or a y p in
-      f.bare_Conditional (node_of y) y z w ∙ four x.Conditional (node_here y k) k (joined_by junction.Or c z q) (expr_bare d w r)
+      f.expr_Conditional (node_of y) y z w ∙ four x.Conditional (node_here y k) k (joined_by junction.Or c z q) (expr_bare d w r)
 
   joined_by : (j : Junction) (a : List Token) (y : Expr) → IsJoined j a y → bare_expr y ≡ y
   joined_by _ _ _ (e.alone j a y p) = joint_bare j a y p
@@ -140,13 +140,13 @@ mutual
 
   not_bare : (a : List Token) (y : Expr) → IsNot a y → bare_expr y ≡ y
   not_bare _ _ (e.comparison a y p) = compared_bare a y p
-  not_bare _ _ (e.inverse u a y h p) = f.bare_Not (node_at u) y ∙ ap (x.Not (node_at u)) (not_bare a y p)
+  not_bare _ _ (e.inverse u a y h p) = f.expr_Not (node_at u) y ∙ ap (x.Not (node_at u)) (not_bare a y p)
 
   compared_bare : (a : List Token) (y : Expr) → IsCompared a y → bare_expr y ≡ y
   compared_bare _ _ (e.uncompared a y p) = ranked_bare rank.BitOr a y p
   compared_bare _ _ (e.compared a y c more p q) =
       let k = ranked_bare rank.BitOr a y p in
-      f.bare_Compare (node_of y) y more ∙ three x.Compare (node_here y k) k (comparisons_bare c more q)
+      f.expr_Compare (node_of y) y more ∙ three x.Compare (node_here y k) k (comparisons_bare c more q)
 
   comparisons_bare : (a : List Token) (cs : List Comparison) → IsComparisons a cs → map bare_comparison cs ≡ cs
   comparisons_bare _ _ (e.last_comparison a o c y p q) = pair (comparison_here (record { comparator = o; right = y }) (ranked_bare rank.BitOr c y q)) refl
@@ -163,18 +163,18 @@ mutual
   factor_bare : (a : List Token) (y : Expr) → IsFactor a y → bare_expr y ≡ y
   factor_bare _ _ (e.base a y p) = postfix_bare a y p
   factor_bare _ _ (e.power a y u c z p h q) = binary_form y _ z (postfix_bare a y p) (factor_bare c z q)
-  factor_bare _ _ (e.signed u o a y h p) = f.bare_Unary (node_at u) o y ∙ ap (x.Unary (node_at u) o) (factor_bare a y p)
+  factor_bare _ _ (e.signed u o a y h p) = f.expr_Unary (node_at u) o y ∙ ap (x.Unary (node_at u) o) (factor_bare a y p)
 
   postfix_bare : (a : List Token) (y : Expr) → IsPostfix a y → bare_expr y ≡ y
   postfix_bare _ _ (e.atom a y p) = atom_bare a y p
-  postfix_bare _ _ (e.index a y u c z v p h q i) = let k = postfix_bare a y p in f.bare_Index (node_of y) y z ∙ three x.Index (node_here y k) k (expr_bare c z q)
+  postfix_bare _ _ (e.index a y u c z v p h q i) = let k = postfix_bare a y p in f.expr_Index (node_of y) y z ∙ three x.Index (node_here y k) k (expr_bare c z q)
   postfix_bare _ _ (e.slice a y u c z v d w t p h q i r j) =
       let k = postfix_bare a y p in
-      f.bare_Slice (node_of y) y z w ∙ four x.Slice (node_here y k) k (optional_bare c z q) (optional_bare d w r)
-  postfix_bare _ _ (e.field a y u v n p h i) = let k = postfix_bare a y p in f.bare_Field (node_of y) y n ∙ both (λ q z. x.Field q z n) (node_here y k) k
+      f.expr_Slice (node_of y) y z w ∙ four x.Slice (node_here y k) k (optional_bare c z q) (optional_bare d w r)
+  postfix_bare _ _ (e.field a y u v n p h i) = let k = postfix_bare a y p in f.expr_Field (node_of y) y n ∙ both (λ q z. x.Field q z n) (node_here y k) k
   postfix_bare _ _ (e.method a y u v n c ys p h i q) =
       let k = postfix_bare a y p in
-      f.bare_MethodCall (node_of y) (node_of y) y n ys ∙ four (λ q r z zs. x.MethodCall q r z n zs) (node_here y k) (node_here y k) k (arguments_bare c ys q)
+      f.expr_MethodCall (node_of y) (node_of y) y n ys ∙ four (λ q r z zs. x.MethodCall q r z n zs) (node_here y k) (node_here y k) k (arguments_bare c ys q)
 
   optional_bare : (a : List Token) (o : Option Expr) → IsOptional a o → bare_optional bare_expr o ≡ o
   optional_bare _ _ e.absent = refl
@@ -190,19 +190,19 @@ mutual
   row_bare _ _ (e.another a y u c ys more p h q) = pair (expr_bare a y p) (row_bare c (ys, more) q)
 
   atom_bare : (a : List Token) (y : Expr) → IsAtom a y → bare_expr y ≡ y
-  atom_bare _ _ (e.name u n h p) = f.bare_Name (node_at u) n
-  atom_bare _ _ (e.call u n a ys h p q) = f.bare_Call (node_at u) n ys ∙ both (x.Call (node_at u)) (name_bare u n h) (arguments_bare a ys q)
-  atom_bare _ _ (e.number u v h) = f.bare_Number (node_at u) v
-  atom_bare _ _ (e.texts u v a more h p) = f.bare_Text (node_at u) (v ++ more)
-  atom_bare _ _ (e.yes u h) = f.bare_True (node_at u)
-  atom_bare _ _ (e.no u h) = f.bare_False (node_at u)
-  atom_bare _ _ (e.nothing u h) = f.bare_None (node_at u)
-  atom_bare _ _ (e.bracketed u a y v h p i) = f.bare_Bracketed (node_at u) y ∙ ap (x.Bracketed (node_at u)) (expr_bare a y p)
-  atom_bare _ _ (e.tuple u a ys v h p l i) = f.bare_Tuple (node_at u) Bracketed ys ∙ ap (x.Tuple (node_at u) Bracketed) (row_bare a (ys, true) p)
-  atom_bare _ _ (e.empty_list u v h i) = f.bare_List (node_at u) []
-  atom_bare _ _ (e.list u a ys more v h p i) = f.bare_List (node_at u) ys ∙ ap (x.List (node_at u)) (row_bare a (ys, more) p)
+  atom_bare _ _ (e.name u n h p) = f.expr_Name (node_at u) n
+  atom_bare _ _ (e.call u n a ys h p q) = f.expr_Call (node_at u) n ys ∙ both (x.Call (node_at u)) (name_bare u n h) (arguments_bare a ys q)
+  atom_bare _ _ (e.number u v h) = f.expr_Number (node_at u) v
+  atom_bare _ _ (e.texts u v a more h p) = f.expr_Text (node_at u) (v ++ more)
+  atom_bare _ _ (e.yes u h) = f.expr_True (node_at u)
+  atom_bare _ _ (e.no u h) = f.expr_False (node_at u)
+  atom_bare _ _ (e.nothing u h) = f.expr_None (node_at u)
+  atom_bare _ _ (e.bracketed u a y v h p i) = f.expr_Bracketed (node_at u) y ∙ ap (x.Bracketed (node_at u)) (expr_bare a y p)
+  atom_bare _ _ (e.tuple u a ys v h p l i) = f.expr_Tuple (node_at u) Bracketed ys ∙ ap (x.Tuple (node_at u) Bracketed) (row_bare a (ys, true) p)
+  atom_bare _ _ (e.empty_list u v h i) = f.expr_List (node_at u) []
+  atom_bare _ _ (e.list u a ys more v h p i) = f.expr_List (node_at u) ys ∙ ap (x.List (node_at u)) (row_bare a (ys, more) p)
   atom_bare _ _ (e.comprehension u a y g c ns v d z k o w h p i q j r l n) =
-      f.bare_Comprehension (node_at u) y ns z o ∙ four (x.Comprehension (node_at u)) (expr_bare a y p) (names_bare c ns q) (joined_by junction.Or d z r) (filter_bare k o l)
+      f.expr_Comprehension (node_at u) y ns z o ∙ four (x.Comprehension (node_at u)) (expr_bare a y p) (names_bare c ns q) (joined_by junction.Or d z r) (filter_bare k o l)
 
   filter_bare : (a : List Token) (o : Option Expr) → IsFilter a o → bare_optional bare_expr o ≡ o
   filter_bare _ _ e.unfiltered = refl
@@ -212,13 +212,13 @@ mutual
 
 mutual
   type_bare : (a : List Token) (y : Annotation) → IsType a y → bare_annotation y ≡ y
-  type_bare _ _ (t.int u h) = f.type_Int (node_at u)
-  type_bare _ _ (t.bool u h) = f.type_Bool (node_at u)
-  type_bare _ _ (t.str u h) = f.type_Str (node_at u)
-  type_bare _ _ (t.none u h) = f.type_None (node_at u)
-  type_bare _ _ (t.class u n h p) = f.type_Class (node_at u) n
-  type_bare _ _ (t.list u v a y w h i p j) = f.type_List (node_at u) y ∙ ap (annotation.List (node_at u)) (type_bare a y p)
-  type_bare _ _ (t.tuple u v a ys w h i p l j) = f.type_Tuple (node_at u) ys ∙ ap (annotation.Tuple (node_at u)) (types_bare a ys p)
+  type_bare _ _ (t.int u h) = f.annotation_Int (node_at u)
+  type_bare _ _ (t.bool u h) = f.annotation_Bool (node_at u)
+  type_bare _ _ (t.str u h) = f.annotation_Str (node_at u)
+  type_bare _ _ (t.none u h) = f.annotation_None (node_at u)
+  type_bare _ _ (t.class u n h p) = f.annotation_Class (node_at u) n
+  type_bare _ _ (t.list u v a y w h i p j) = f.annotation_List (node_at u) y ∙ ap (annotation.List (node_at u)) (type_bare a y p)
+  type_bare _ _ (t.tuple u v a ys w h i p l j) = f.annotation_Tuple (node_at u) ys ∙ ap (annotation.Tuple (node_at u)) (types_bare a ys p)
 
   types_bare : (a : List Token) (ys : List Annotation) → IsTypes a ys → map bare_annotation ys ≡ ys
   types_bare _ _ (t.last a y p) = pair (type_bare a y p) refl
@@ -231,7 +231,7 @@ items_bare _ _ (s.item a y p) = let k = row_bare a (y ∷ [], false) p in cc
 items_bare _ _ (s.tuple a y ys p l) =
     let k = row_bare a (y ∷ ys, true) p in
     let first : bare_expr y ≡ y = cc in
-    f.bare_Tuple (node_of y) Bare (y ∷ ys) ∙ both (λ n zs. x.Tuple n Bare zs) (node_here y first) k
+    f.expr_Tuple (node_of y) Bare (y ∷ ys) ∙ both (λ n zs. x.Tuple n Bare zs) (node_here y first) k
 
 target_bare : (a : List Token) (y : Target) → IsTarget a y → bare_target y ≡ y
 target_bare _ _ (s.name u n h) = refl

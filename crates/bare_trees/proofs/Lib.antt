@@ -1,4 +1,4 @@
-pub mod BareForms
+pub mod BareNodes
 pub mod Derived
 pub mod Restore
 pub mod RestoreStatements

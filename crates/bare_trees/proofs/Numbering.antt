@@ -45,7 +45,7 @@ use Rattle.source_trees.specs.Bare.{bare, bare_name, bare_loop_names, bare_expr,
 use Rattle.source_trees.specs.Nodes.{joined, before_parts, nodes_of_expr, nodes_of_annotation, nodes_of_target, nodes_of_targets, nodes_of_stage, nodes_of_stmt, nodes_of_for, nodes_of_param, nodes_of_function, nodes_of_member, nodes_of_class, nodes_of_item, numbers_from, IsNumbered}
 use Rattle.source_trees.specs.Parts.{optional, of_name, of_loop_names, of_comparison, of_optional_expr, of_optional_annotation, of_print_options, of_printed, of_stage_form, of_arm}
 use Rattle.source_trees.proofs.Equations as q
-use Rattle.bare_trees.proofs.BareForms as shape
+use Rattle.source_trees.proofs.BareForms as shape
 use Rattle.std.proofs.lemmas.List.{append-nil, length-append}
 use Rattle.bare_trees.proofs.Restore.{Each, each_by, ids, ids_append, joined_append}
 
@@ -161,92 +161,92 @@ option_some (Some x) h = mapped Some (bare_optional bare_expr) maybe_nodes (Some
 case_Name : (n : Node) (s : List ℕ) → HasExpr (expr.Name n s)
 case_Name n s =
     under n (λ m (v : Unit {0}). expr.Name m s) bare_expr nodes_of_expr (bare_expr (expr.Name n s)) (λ (z : Unit {0}). z) (λ (z : Unit {0}). []) tt (λ m (v : Unit {0}). expr.Name m s)
-    (λ m v. shape.bare_Name m s) (λ m v. q.expr_Name before_parts m s) (sym (shape.bare_Name n s)) none_at
+    (λ m v. shape.expr_Name m s) (λ m v. q.expr_Name before_parts m s) (sym (shape.expr_Name n s)) none_at
 
 case_Number : (n : Node) (s : ℤ) → HasExpr (expr.Number n s)
 case_Number n s =
     under n (λ m (v : Unit {0}). expr.Number m s) bare_expr nodes_of_expr (bare_expr (expr.Number n s)) (λ (z : Unit {0}). z) (λ (z : Unit {0}). []) tt (λ m (v : Unit {0}). expr.Number m s)
-    (λ m v. shape.bare_Number m s) (λ m v. q.expr_Number before_parts m s) (sym (shape.bare_Number n s)) none_at
+    (λ m v. shape.expr_Number m s) (λ m v. q.expr_Number before_parts m s) (sym (shape.expr_Number n s)) none_at
 
 case_Text : (n : Node) (s : List ℕ) → HasExpr (expr.Text n s)
 case_Text n s =
     under n (λ m (v : Unit {0}). expr.Text m s) bare_expr nodes_of_expr (bare_expr (expr.Text n s)) (λ (z : Unit {0}). z) (λ (z : Unit {0}). []) tt (λ m (v : Unit {0}). expr.Text m s)
-    (λ m v. shape.bare_Text m s) (λ m v. q.expr_Text before_parts m s) (sym (shape.bare_Text n s)) none_at
+    (λ m v. shape.expr_Text m s) (λ m v. q.expr_Text before_parts m s) (sym (shape.expr_Text n s)) none_at
 
 case_True : (n : Node) → HasExpr (expr.True n)
 case_True n =
     under n (λ m (v : Unit {0}). expr.True m) bare_expr nodes_of_expr (bare_expr (expr.True n)) (λ (z : Unit {0}). z) (λ (z : Unit {0}). []) tt (λ m (v : Unit {0}). expr.True m)
-    (λ m v. shape.bare_True m) (λ m v. q.expr_True before_parts m) (sym (shape.bare_True n)) none_at
+    (λ m v. shape.expr_True m) (λ m v. q.expr_True before_parts m) (sym (shape.expr_True n)) none_at
 
 case_False : (n : Node) → HasExpr (expr.False n)
 case_False n =
     under n (λ m (v : Unit {0}). expr.False m) bare_expr nodes_of_expr (bare_expr (expr.False n)) (λ (z : Unit {0}). z) (λ (z : Unit {0}). []) tt (λ m (v : Unit {0}). expr.False m)
-    (λ m v. shape.bare_False m) (λ m v. q.expr_False before_parts m) (sym (shape.bare_False n)) none_at
+    (λ m v. shape.expr_False m) (λ m v. q.expr_False before_parts m) (sym (shape.expr_False n)) none_at
 
 case_None : (n : Node) → HasExpr (expr.None n)
 case_None n =
     under n (λ m (v : Unit {0}). expr.None m) bare_expr nodes_of_expr (bare_expr (expr.None n)) (λ (z : Unit {0}). z) (λ (z : Unit {0}). []) tt (λ m (v : Unit {0}). expr.None m)
-    (λ m v. shape.bare_None m) (λ m v. q.expr_None before_parts m) (sym (shape.bare_None n)) none_at
+    (λ m v. shape.expr_None m) (λ m v. q.expr_None before_parts m) (sym (shape.expr_None n)) none_at
 
 case_Bracketed : (n : Node) (x : Expr) → HasExpr x → HasExpr (expr.Bracketed n x)
 case_Bracketed n x hx =
     under n (λ m (v : Expr). expr.Bracketed m v) bare_expr nodes_of_expr (bare_expr (expr.Bracketed n x)) bare_expr (single_part nodes_of_expr) (bare_expr x) (λ m (v : Expr). expr.Bracketed m v)
-    (λ m v. shape.bare_Bracketed m v) (λ m v. q.expr_Bracketed before_parts m v) (sym (shape.bare_Bracketed n x)) hx
+    (λ m v. shape.expr_Bracketed m v) (λ m v. q.expr_Bracketed before_parts m v) (sym (shape.expr_Bracketed n x)) hx
 
 case_Tuple : (n : Node) (c : Commas) (xs : List Expr) → Each HasExpr xs → HasExpr (expr.Tuple n c xs)
 case_Tuple n c xs hxs =
     under n (λ m (v : List Expr). expr.Tuple m c v) bare_expr nodes_of_expr (bare_expr (expr.Tuple n c xs)) (map bare_expr) (map nodes_of_expr) (map bare_expr xs) (λ m (v : List Expr). expr.Tuple m c v)
-    (λ m v. shape.bare_Tuple m c v) (λ m v. q.expr_Tuple before_parts m c v) (sym (shape.bare_Tuple n c xs)) (lists bare_expr nodes_of_expr xs hxs)
+    (λ m v. shape.expr_Tuple m c v) (λ m v. q.expr_Tuple before_parts m c v) (sym (shape.expr_Tuple n c xs)) (lists bare_expr nodes_of_expr xs hxs)
 
 case_List : (n : Node) (xs : List Expr) → Each HasExpr xs → HasExpr (expr.List n xs)
 case_List n xs hxs =
     under n (λ m (v : List Expr). expr.List m v) bare_expr nodes_of_expr (bare_expr (expr.List n xs)) (map bare_expr) (map nodes_of_expr) (map bare_expr xs) (λ m (v : List Expr). expr.List m v)
-    (λ m v. shape.bare_List m v) (λ m v. q.expr_List before_parts m v) (sym (shape.bare_List n xs)) (lists bare_expr nodes_of_expr xs hxs)
+    (λ m v. shape.expr_List m v) (λ m v. q.expr_List before_parts m v) (sym (shape.expr_List n xs)) (lists bare_expr nodes_of_expr xs hxs)
 
 case_Comprehension : (n : Node) (x : Expr) (ns : LoopNames) (y : Expr) (z : Option Expr) → HasExpr x → HasExpr y → HasOption z → HasExpr (expr.Comprehension n x ns y z)
 case_Comprehension n x ns y z hx hy hz =
     under n (λ m (v : Expr × (LoopNames × (Expr × (Option Expr)))). expr.Comprehension m v.0 v.1.0 v.1.1.0 v.1.1.1) bare_expr nodes_of_expr (bare_expr (expr.Comprehension n x ns y z)) (both_bare bare_expr (both_bare bare_loop_names (both_bare bare_expr (bare_optional bare_expr)))) (both_parts (single_part nodes_of_expr) (both_parts (of_loop_names before_parts) (both_parts (single_part nodes_of_expr) maybe_nodes))) ((bare_expr x), ((bare_loop_names ns), ((bare_expr y), (bare_optional bare_expr z)))) (λ m (v : Expr × (LoopNames × (Expr × (Option Expr)))). expr.Comprehension m v.0 v.1.0 v.1.1.0 v.1.1.1)
-    (λ m v. shape.bare_Comprehension m v.0 v.1.0 v.1.1.0 v.1.1.1) (λ m v. q.expr_Comprehension before_parts m v.0 v.1.0 v.1.1.0 v.1.1.1) (sym (shape.bare_Comprehension n x ns y z)) (pairs bare_expr (single_part nodes_of_expr) (bare_expr x) (both_bare bare_loop_names (both_bare bare_expr (bare_optional bare_expr))) (both_parts (of_loop_names before_parts) (both_parts (single_part nodes_of_expr) maybe_nodes)) ((bare_loop_names ns), ((bare_expr y), (bare_optional bare_expr z))) hx (pairs bare_loop_names (of_loop_names before_parts) (bare_loop_names ns) (both_bare bare_expr (bare_optional bare_expr)) (both_parts (single_part nodes_of_expr) maybe_nodes) ((bare_expr y), (bare_optional bare_expr z)) (names_some ns) (pairs bare_expr (single_part nodes_of_expr) (bare_expr y) (bare_optional bare_expr) maybe_nodes (bare_optional bare_expr z) hy (option_some z hz))))
+    (λ m v. shape.expr_Comprehension m v.0 v.1.0 v.1.1.0 v.1.1.1) (λ m v. q.expr_Comprehension before_parts m v.0 v.1.0 v.1.1.0 v.1.1.1) (sym (shape.expr_Comprehension n x ns y z)) (pairs bare_expr (single_part nodes_of_expr) (bare_expr x) (both_bare bare_loop_names (both_bare bare_expr (bare_optional bare_expr))) (both_parts (of_loop_names before_parts) (both_parts (single_part nodes_of_expr) maybe_nodes)) ((bare_loop_names ns), ((bare_expr y), (bare_optional bare_expr z))) hx (pairs bare_loop_names (of_loop_names before_parts) (bare_loop_names ns) (both_bare bare_expr (bare_optional bare_expr)) (both_parts (single_part nodes_of_expr) maybe_nodes) ((bare_expr y), (bare_optional bare_expr z)) (names_some ns) (pairs bare_expr (single_part nodes_of_expr) (bare_expr y) (bare_optional bare_expr) maybe_nodes (bare_optional bare_expr z) hy (option_some z hz))))
 
 case_Conditional : (n : Node) (x : Expr) (y : Expr) (z : Expr) → HasExpr x → HasExpr y → HasExpr z → HasExpr (expr.Conditional n x y z)
 case_Conditional n x y z hx hy hz =
     under n (λ m (v : Expr × (Expr × Expr)). expr.Conditional m v.0 v.1.0 v.1.1) bare_expr nodes_of_expr (bare_expr (expr.Conditional n x y z)) (both_bare bare_expr (both_bare bare_expr bare_expr)) (both_parts (single_part nodes_of_expr) (both_parts (single_part nodes_of_expr) (single_part nodes_of_expr))) ((bare_expr x), ((bare_expr y), (bare_expr z))) (λ m (v : Expr × (Expr × Expr)). expr.Conditional m v.0 v.1.0 v.1.1)
-    (λ m v. shape.bare_Conditional m v.0 v.1.0 v.1.1) (λ m v. q.expr_Conditional before_parts m v.0 v.1.0 v.1.1) (sym (shape.bare_Conditional n x y z)) (pairs bare_expr (single_part nodes_of_expr) (bare_expr x) (both_bare bare_expr bare_expr) (both_parts (single_part nodes_of_expr) (single_part nodes_of_expr)) ((bare_expr y), (bare_expr z)) hx (pairs bare_expr (single_part nodes_of_expr) (bare_expr y) bare_expr (single_part nodes_of_expr) (bare_expr z) hy hz))
+    (λ m v. shape.expr_Conditional m v.0 v.1.0 v.1.1) (λ m v. q.expr_Conditional before_parts m v.0 v.1.0 v.1.1) (sym (shape.expr_Conditional n x y z)) (pairs bare_expr (single_part nodes_of_expr) (bare_expr x) (both_bare bare_expr bare_expr) (both_parts (single_part nodes_of_expr) (single_part nodes_of_expr)) ((bare_expr y), (bare_expr z)) hx (pairs bare_expr (single_part nodes_of_expr) (bare_expr y) bare_expr (single_part nodes_of_expr) (bare_expr z) hy hz))
 
 case_Or : (n : Node) (xs : List Expr) → Each HasExpr xs → HasExpr (expr.Or n xs)
 case_Or n xs hxs =
     under n (λ m (v : List Expr). expr.Or m v) bare_expr nodes_of_expr (bare_expr (expr.Or n xs)) (map bare_expr) (map nodes_of_expr) (map bare_expr xs) (λ m (v : List Expr). expr.Or m v)
-    (λ m v. shape.bare_Or m v) (λ m v. q.expr_Or before_parts m v) (sym (shape.bare_Or n xs)) (lists bare_expr nodes_of_expr xs hxs)
+    (λ m v. shape.expr_Or m v) (λ m v. q.expr_Or before_parts m v) (sym (shape.expr_Or n xs)) (lists bare_expr nodes_of_expr xs hxs)
 
 case_And : (n : Node) (xs : List Expr) → Each HasExpr xs → HasExpr (expr.And n xs)
 case_And n xs hxs =
     under n (λ m (v : List Expr). expr.And m v) bare_expr nodes_of_expr (bare_expr (expr.And n xs)) (map bare_expr) (map nodes_of_expr) (map bare_expr xs) (λ m (v : List Expr). expr.And m v)
-    (λ m v. shape.bare_And m v) (λ m v. q.expr_And before_parts m v) (sym (shape.bare_And n xs)) (lists bare_expr nodes_of_expr xs hxs)
+    (λ m v. shape.expr_And m v) (λ m v. q.expr_And before_parts m v) (sym (shape.expr_And n xs)) (lists bare_expr nodes_of_expr xs hxs)
 
 case_Not : (n : Node) (x : Expr) → HasExpr x → HasExpr (expr.Not n x)
 case_Not n x hx =
     under n (λ m (v : Expr). expr.Not m v) bare_expr nodes_of_expr (bare_expr (expr.Not n x)) bare_expr (single_part nodes_of_expr) (bare_expr x) (λ m (v : Expr). expr.Not m v)
-    (λ m v. shape.bare_Not m v) (λ m v. q.expr_Not before_parts m v) (sym (shape.bare_Not n x)) hx
+    (λ m v. shape.expr_Not m v) (λ m v. q.expr_Not before_parts m v) (sym (shape.expr_Not n x)) hx
 
 case_Compare : (n : Node) (x : Expr) (cs : List Comparison) → HasExpr x → Each HasComparison cs → HasExpr (expr.Compare n x cs)
 case_Compare n x cs hx hcs =
     under n (λ m (v : Expr × (List Comparison)). expr.Compare m v.0 v.1) bare_expr nodes_of_expr (bare_expr (expr.Compare n x cs)) (both_bare bare_expr (map bare_comparison)) (both_parts (single_part nodes_of_expr) (map (of_comparison before_parts))) ((bare_expr x), (map bare_comparison cs)) (λ m (v : Expr × (List Comparison)). expr.Compare m v.0 v.1)
-    (λ m v. shape.bare_Compare m v.0 v.1) (λ m v. q.expr_Compare before_parts m v.0 v.1) (sym (shape.bare_Compare n x cs)) (pairs bare_expr (single_part nodes_of_expr) (bare_expr x) (map bare_comparison) (map (of_comparison before_parts)) (map bare_comparison cs) hx (lists bare_comparison (of_comparison before_parts) cs hcs))
+    (λ m v. shape.expr_Compare m v.0 v.1) (λ m v. q.expr_Compare before_parts m v.0 v.1) (sym (shape.expr_Compare n x cs)) (pairs bare_expr (single_part nodes_of_expr) (bare_expr x) (map bare_comparison) (map (of_comparison before_parts)) (map bare_comparison cs) hx (lists bare_comparison (of_comparison before_parts) cs hcs))
 
 case_Unary : (n : Node) (o : UnaryOp) (x : Expr) → HasExpr x → HasExpr (expr.Unary n o x)
 case_Unary n o x hx =
     under n (λ m (v : Expr). expr.Unary m o v) bare_expr nodes_of_expr (bare_expr (expr.Unary n o x)) bare_expr (single_part nodes_of_expr) (bare_expr x) (λ m (v : Expr). expr.Unary m o v)
-    (λ m v. shape.bare_Unary m o v) (λ m v. q.expr_Unary before_parts m o v) (sym (shape.bare_Unary n o x)) hx
+    (λ m v. shape.expr_Unary m o v) (λ m v. q.expr_Unary before_parts m o v) (sym (shape.expr_Unary n o x)) hx
 
 case_Binary : (n : Node) (o : BinaryOp) (x : Expr) (y : Expr) → HasExpr x → HasExpr y → HasExpr (expr.Binary n o x y)
 case_Binary n o x y hx hy =
     under n (λ m (v : Expr × Expr). expr.Binary m o v.0 v.1) bare_expr nodes_of_expr (bare_expr (expr.Binary n o x y)) (both_bare bare_expr bare_expr) (both_parts (single_part nodes_of_expr) (single_part nodes_of_expr)) ((bare_expr x), (bare_expr y)) (λ m (v : Expr × Expr). expr.Binary m o v.0 v.1)
-    (λ m v. shape.bare_Binary m o v.0 v.1) (λ m v. q.expr_Binary before_parts m o v.0 v.1) (sym (shape.bare_Binary n o x y)) (pairs bare_expr (single_part nodes_of_expr) (bare_expr x) bare_expr (single_part nodes_of_expr) (bare_expr y) hx hy)
+    (λ m v. shape.expr_Binary m o v.0 v.1) (λ m v. q.expr_Binary before_parts m o v.0 v.1) (sym (shape.expr_Binary n o x y)) (pairs bare_expr (single_part nodes_of_expr) (bare_expr x) bare_expr (single_part nodes_of_expr) (bare_expr y) hx hy)
 
 case_Call : (n : Node) (f : Name) (xs : List Expr) → Each HasExpr xs → HasExpr (expr.Call n f xs)
 case_Call n f xs hxs =
     under n (λ m (v : Name × (List Expr)). expr.Call m v.0 v.1) bare_expr nodes_of_expr (bare_expr (expr.Call n f xs)) (both_bare bare_name (map bare_expr)) (both_parts (single_part (of_name before_parts)) (map nodes_of_expr)) ((bare_name f), (map bare_expr xs)) (λ m (v : Name × (List Expr)). expr.Call m v.0 v.1)
-    (λ m v. shape.bare_Call m v.0 v.1) (λ m v. q.expr_Call before_parts m v.0 v.1) (sym (shape.bare_Call n f xs)) (pairs bare_name (single_part (of_name before_parts)) (bare_name f) (map bare_expr) (map nodes_of_expr) (map bare_expr xs) (name_one f) (lists bare_expr nodes_of_expr xs hxs))
+    (λ m v. shape.expr_Call m v.0 v.1) (λ m v. q.expr_Call before_parts m v.0 v.1) (sym (shape.expr_Call n f xs)) (pairs bare_name (single_part (of_name before_parts)) (bare_name f) (map bare_expr) (map nodes_of_expr) (map bare_expr xs) (name_one f) (lists bare_expr nodes_of_expr xs hxs))
 
 abbrev method_nodes : Node × Expr → List Node
 method_nodes z = z.0 ∷ joined (nodes_of_expr z.1 ∷ [])
@@ -263,23 +263,23 @@ called n s v = expr.MethodCall n v.0.0 v.0.1 s v.1
 case_MethodCall : (n : Node) (m : Node) (x : Expr) (s : List ℕ) (xs : List Expr) → HasExpr x → Each HasExpr xs → HasExpr (expr.MethodCall n m x s xs)
 case_MethodCall n m x s xs hx hxs =
     under n (λ n v. called n s v) bare_expr nodes_of_expr (bare_expr (expr.MethodCall n m x s xs)) (both_bare bare_method (map bare_expr)) (both_parts (single_part method_nodes) (map nodes_of_expr)) ((bare m, bare_expr x), map bare_expr xs) (λ n v. called n s v)
-    (λ k v. shape.bare_MethodCall k v.0.0 v.0.1 s v.1) (λ k v. q.expr_MethodCall before_parts k v.0.0 v.0.1 s v.1) (sym (shape.bare_MethodCall n m x s xs))
+    (λ k v. shape.expr_MethodCall k v.0.0 v.0.1 s v.1) (λ k v. q.expr_MethodCall before_parts k v.0.0 v.0.1 s v.1) (sym (shape.expr_MethodCall n m x s xs))
     (pairs bare_method (single_part method_nodes) (bare m, bare_expr x) (map bare_expr) (map nodes_of_expr) (map bare_expr xs) (method_one m x hx) (lists bare_expr nodes_of_expr xs hxs))
 
 case_Index : (n : Node) (x : Expr) (y : Expr) → HasExpr x → HasExpr y → HasExpr (expr.Index n x y)
 case_Index n x y hx hy =
     under n (λ m (v : Expr × Expr). expr.Index m v.0 v.1) bare_expr nodes_of_expr (bare_expr (expr.Index n x y)) (both_bare bare_expr bare_expr) (both_parts (single_part nodes_of_expr) (single_part nodes_of_expr)) ((bare_expr x), (bare_expr y)) (λ m (v : Expr × Expr). expr.Index m v.0 v.1)
-    (λ m v. shape.bare_Index m v.0 v.1) (λ m v. q.expr_Index before_parts m v.0 v.1) (sym (shape.bare_Index n x y)) (pairs bare_expr (single_part nodes_of_expr) (bare_expr x) bare_expr (single_part nodes_of_expr) (bare_expr y) hx hy)
+    (λ m v. shape.expr_Index m v.0 v.1) (λ m v. q.expr_Index before_parts m v.0 v.1) (sym (shape.expr_Index n x y)) (pairs bare_expr (single_part nodes_of_expr) (bare_expr x) bare_expr (single_part nodes_of_expr) (bare_expr y) hx hy)
 
 case_Slice : (n : Node) (x : Expr) (y : Option Expr) (z : Option Expr) → HasExpr x → HasOption y → HasOption z → HasExpr (expr.Slice n x y z)
 case_Slice n x y z hx hy hz =
     under n (λ m (v : Expr × ((Option Expr) × (Option Expr))). expr.Slice m v.0 v.1.0 v.1.1) bare_expr nodes_of_expr (bare_expr (expr.Slice n x y z)) (both_bare bare_expr (both_bare (bare_optional bare_expr) (bare_optional bare_expr))) (both_parts (single_part nodes_of_expr) (both_parts maybe_nodes maybe_nodes)) ((bare_expr x), ((bare_optional bare_expr y), (bare_optional bare_expr z))) (λ m (v : Expr × ((Option Expr) × (Option Expr))). expr.Slice m v.0 v.1.0 v.1.1)
-    (λ m v. shape.bare_Slice m v.0 v.1.0 v.1.1) (λ m v. q.expr_Slice before_parts m v.0 v.1.0 v.1.1) (sym (shape.bare_Slice n x y z)) (pairs bare_expr (single_part nodes_of_expr) (bare_expr x) (both_bare (bare_optional bare_expr) (bare_optional bare_expr)) (both_parts maybe_nodes maybe_nodes) ((bare_optional bare_expr y), (bare_optional bare_expr z)) hx (pairs (bare_optional bare_expr) maybe_nodes (bare_optional bare_expr y) (bare_optional bare_expr) maybe_nodes (bare_optional bare_expr z) (option_some y hy) (option_some z hz)))
+    (λ m v. shape.expr_Slice m v.0 v.1.0 v.1.1) (λ m v. q.expr_Slice before_parts m v.0 v.1.0 v.1.1) (sym (shape.expr_Slice n x y z)) (pairs bare_expr (single_part nodes_of_expr) (bare_expr x) (both_bare (bare_optional bare_expr) (bare_optional bare_expr)) (both_parts maybe_nodes maybe_nodes) ((bare_optional bare_expr y), (bare_optional bare_expr z)) hx (pairs (bare_optional bare_expr) maybe_nodes (bare_optional bare_expr y) (bare_optional bare_expr) maybe_nodes (bare_optional bare_expr z) (option_some y hy) (option_some z hz)))
 
 case_Field : (n : Node) (x : Expr) (s : List ℕ) → HasExpr x → HasExpr (expr.Field n x s)
 case_Field n x s hx =
     under n (λ m (v : Expr). expr.Field m v s) bare_expr nodes_of_expr (bare_expr (expr.Field n x s)) bare_expr (single_part nodes_of_expr) (bare_expr x) (λ m (v : Expr). expr.Field m v s)
-    (λ m v. shape.bare_Field m v s) (λ m v. q.expr_Field before_parts m v s) (sym (shape.bare_Field n x s)) hx
+    (λ m v. shape.expr_Field m v s) (λ m v. q.expr_Field before_parts m v s) (sym (shape.expr_Field n x s)) hx
 
 abbrev Part : Type 0
 Part = (x : Expr) × HasExpr x
@@ -361,37 +361,37 @@ HasType x = One bare_annotation nodes_of_annotation (bare_annotation x)
 type_Int : (n : Node) → HasType (annotation.Int n)
 type_Int n =
     under n (λ m (v : Unit {0}). annotation.Int m) bare_annotation nodes_of_annotation (bare_annotation (annotation.Int n)) (λ (z : Unit {0}). z) (λ (z : Unit {0}). []) tt (λ m (v : Unit {0}). annotation.Int m)
-    (λ m v. shape.type_Int m) (λ m v. q.annotation_Int before_parts m) (sym (shape.type_Int n)) none_at
+    (λ m v. shape.annotation_Int m) (λ m v. q.annotation_Int before_parts m) (sym (shape.annotation_Int n)) none_at
 
 type_Bool : (n : Node) → HasType (annotation.Bool n)
 type_Bool n =
     under n (λ m (v : Unit {0}). annotation.Bool m) bare_annotation nodes_of_annotation (bare_annotation (annotation.Bool n)) (λ (z : Unit {0}). z) (λ (z : Unit {0}). []) tt (λ m (v : Unit {0}). annotation.Bool m)
-    (λ m v. shape.type_Bool m) (λ m v. q.annotation_Bool before_parts m) (sym (shape.type_Bool n)) none_at
+    (λ m v. shape.annotation_Bool m) (λ m v. q.annotation_Bool before_parts m) (sym (shape.annotation_Bool n)) none_at
 
 type_Str : (n : Node) → HasType (annotation.Str n)
 type_Str n =
     under n (λ m (v : Unit {0}). annotation.Str m) bare_annotation nodes_of_annotation (bare_annotation (annotation.Str n)) (λ (z : Unit {0}). z) (λ (z : Unit {0}). []) tt (λ m (v : Unit {0}). annotation.Str m)
-    (λ m v. shape.type_Str m) (λ m v. q.annotation_Str before_parts m) (sym (shape.type_Str n)) none_at
+    (λ m v. shape.annotation_Str m) (λ m v. q.annotation_Str before_parts m) (sym (shape.annotation_Str n)) none_at
 
 type_None : (n : Node) → HasType (annotation.None n)
 type_None n =
     under n (λ m (v : Unit {0}). annotation.None m) bare_annotation nodes_of_annotation (bare_annotation (annotation.None n)) (λ (z : Unit {0}). z) (λ (z : Unit {0}). []) tt (λ m (v : Unit {0}). annotation.None m)
-    (λ m v. shape.type_None m) (λ m v. q.annotation_None before_parts m) (sym (shape.type_None n)) none_at
+    (λ m v. shape.annotation_None m) (λ m v. q.annotation_None before_parts m) (sym (shape.annotation_None n)) none_at
 
 type_Class : (n : Node) (s : List ℕ) → HasType (annotation.Class n s)
 type_Class n s =
     under n (λ m (v : Unit {0}). annotation.Class m s) bare_annotation nodes_of_annotation (bare_annotation (annotation.Class n s)) (λ (z : Unit {0}). z) (λ (z : Unit {0}). []) tt (λ m (v : Unit {0}). annotation.Class m s)
-    (λ m v. shape.type_Class m s) (λ m v. q.annotation_Class before_parts m s) (sym (shape.type_Class n s)) none_at
+    (λ m v. shape.annotation_Class m s) (λ m v. q.annotation_Class before_parts m s) (sym (shape.annotation_Class n s)) none_at
 
 type_List : (n : Node) (x : Annotation) → HasType x → HasType (annotation.List n x)
 type_List n x hx =
     under n (λ m (v : Annotation). annotation.List m v) bare_annotation nodes_of_annotation (bare_annotation (annotation.List n x)) bare_annotation (single_part nodes_of_annotation) (bare_annotation x) (λ m (v : Annotation). annotation.List m v)
-    (λ m v. shape.type_List m v) (λ m v. q.annotation_List before_parts m v) (sym (shape.type_List n x)) hx
+    (λ m v. shape.annotation_List m v) (λ m v. q.annotation_List before_parts m v) (sym (shape.annotation_List n x)) hx
 
 type_Tuple : (n : Node) (xs : List Annotation) → Each HasType xs → HasType (annotation.Tuple n xs)
 type_Tuple n xs hxs =
     under n (λ m (v : List Annotation). annotation.Tuple m v) bare_annotation nodes_of_annotation (bare_annotation (annotation.Tuple n xs)) (map bare_annotation) (map nodes_of_annotation) (map bare_annotation xs) (λ m (v : List Annotation). annotation.Tuple m v)
-    (λ m v. shape.type_Tuple m v) (λ m v. q.annotation_Tuple before_parts m v) (sym (shape.type_Tuple n xs)) (lists bare_annotation nodes_of_annotation xs hxs)
+    (λ m v. shape.annotation_Tuple m v) (λ m v. q.annotation_Tuple before_parts m v) (sym (shape.annotation_Tuple n xs)) (lists bare_annotation nodes_of_annotation xs hxs)
 
 abbrev TypePart : Type 0
 TypePart = (x : Annotation) × HasType x

@@ -18,7 +18,7 @@ use Rattle.source_trees.specs.Bare.{bare, bare_name, bare_loop_names, bare_expr,
 use Rattle.source_trees.specs.Nodes.{joined, before_parts, nodes_of_expr}
 use Rattle.source_trees.specs.Parts.{of_name, of_loop_names, of_comparison, optional}
 use Rattle.source_trees.proofs.Equations as q
-use Rattle.bare_trees.proofs.BareForms as shape
+use Rattle.source_trees.proofs.BareForms as shape
 
 -- ---- numbers from a list
 
@@ -273,133 +273,133 @@ opt_parts (Some x) h = seq_parts Some (ret Some) [] x (restore_expr (bare_expr x
 case_Name : (n : Node) (s : List ℕ) → GoodExpr (expr.Name n s)
 case_Name n s =
     good_by (expr.Name n s) (restore_expr (bare_expr (expr.Name n s))) (headed (bare n) (λ n. ret (expr.Name n s))) (nodes_of_expr (expr.Name n s)) (n ∷ joined ([]))
-    (ap restore_expr (shape.bare_Name n s) ∙ restore_Name (bare n) s) (q.expr_Name before_parts n s)
+    (ap restore_expr (shape.expr_Name n s) ∙ restore_Name (bare n) s) (q.expr_Name before_parts n s)
     (good_headed n (expr.Name n s) (λ n. ret (expr.Name n s)) ([]) (ret_parts (expr.Name n s)))
 
 case_Number : (n : Node) (s : ℤ) → GoodExpr (expr.Number n s)
 case_Number n s =
     good_by (expr.Number n s) (restore_expr (bare_expr (expr.Number n s))) (headed (bare n) (λ n. ret (expr.Number n s))) (nodes_of_expr (expr.Number n s)) (n ∷ joined ([]))
-    (ap restore_expr (shape.bare_Number n s) ∙ restore_Number (bare n) s) (q.expr_Number before_parts n s)
+    (ap restore_expr (shape.expr_Number n s) ∙ restore_Number (bare n) s) (q.expr_Number before_parts n s)
     (good_headed n (expr.Number n s) (λ n. ret (expr.Number n s)) ([]) (ret_parts (expr.Number n s)))
 
 case_Text : (n : Node) (s : List ℕ) → GoodExpr (expr.Text n s)
 case_Text n s =
     good_by (expr.Text n s) (restore_expr (bare_expr (expr.Text n s))) (headed (bare n) (λ n. ret (expr.Text n s))) (nodes_of_expr (expr.Text n s)) (n ∷ joined ([]))
-    (ap restore_expr (shape.bare_Text n s) ∙ restore_Text (bare n) s) (q.expr_Text before_parts n s)
+    (ap restore_expr (shape.expr_Text n s) ∙ restore_Text (bare n) s) (q.expr_Text before_parts n s)
     (good_headed n (expr.Text n s) (λ n. ret (expr.Text n s)) ([]) (ret_parts (expr.Text n s)))
 
 case_True : (n : Node) → GoodExpr (expr.True n)
 case_True n =
     good_by (expr.True n) (restore_expr (bare_expr (expr.True n))) (headed (bare n) (λ n. ret (expr.True n))) (nodes_of_expr (expr.True n)) (n ∷ joined ([]))
-    (ap restore_expr (shape.bare_True n) ∙ restore_True (bare n)) (q.expr_True before_parts n)
+    (ap restore_expr (shape.expr_True n) ∙ restore_True (bare n)) (q.expr_True before_parts n)
     (good_headed n (expr.True n) (λ n. ret (expr.True n)) ([]) (ret_parts (expr.True n)))
 
 case_False : (n : Node) → GoodExpr (expr.False n)
 case_False n =
     good_by (expr.False n) (restore_expr (bare_expr (expr.False n))) (headed (bare n) (λ n. ret (expr.False n))) (nodes_of_expr (expr.False n)) (n ∷ joined ([]))
-    (ap restore_expr (shape.bare_False n) ∙ restore_False (bare n)) (q.expr_False before_parts n)
+    (ap restore_expr (shape.expr_False n) ∙ restore_False (bare n)) (q.expr_False before_parts n)
     (good_headed n (expr.False n) (λ n. ret (expr.False n)) ([]) (ret_parts (expr.False n)))
 
 case_None : (n : Node) → GoodExpr (expr.None n)
 case_None n =
     good_by (expr.None n) (restore_expr (bare_expr (expr.None n))) (headed (bare n) (λ n. ret (expr.None n))) (nodes_of_expr (expr.None n)) (n ∷ joined ([]))
-    (ap restore_expr (shape.bare_None n) ∙ restore_None (bare n)) (q.expr_None before_parts n)
+    (ap restore_expr (shape.expr_None n) ∙ restore_None (bare n)) (q.expr_None before_parts n)
     (good_headed n (expr.None n) (λ n. ret (expr.None n)) ([]) (ret_parts (expr.None n)))
 
 case_Bracketed : (n : Node) (x : Expr) → GoodExpr x → GoodExpr (expr.Bracketed n x)
 case_Bracketed n x hx =
     good_by (expr.Bracketed n x) (restore_expr (bare_expr (expr.Bracketed n x))) (headed (bare n) (λ n. seq (ret (λ x. expr.Bracketed n x)) (restore_expr (bare_expr x)))) (nodes_of_expr (expr.Bracketed n x)) (n ∷ joined (([]) ++ (nodes_of_expr x ∷ [])))
-    (ap restore_expr (shape.bare_Bracketed n x) ∙ restore_Bracketed (bare n) (bare_expr x)) (q.expr_Bracketed before_parts n x)
+    (ap restore_expr (shape.expr_Bracketed n x) ∙ restore_Bracketed (bare n) (bare_expr x)) (q.expr_Bracketed before_parts n x)
     (good_headed n (expr.Bracketed n x) (λ n. seq (ret (λ x. expr.Bracketed n x)) (restore_expr (bare_expr x))) (([]) ++ (nodes_of_expr x ∷ [])) (seq_parts (λ x. expr.Bracketed n x) (ret (λ x. expr.Bracketed n x)) ([]) x (restore_expr (bare_expr x)) (nodes_of_expr x ∷ []) (ret_parts (λ x. expr.Bracketed n x)) (one x (restore_expr (bare_expr x)) (nodes_of_expr x) hx)))
 
 case_Tuple : (n : Node) (c : Commas) (xs : List Expr) → Each GoodExpr xs → GoodExpr (expr.Tuple n c xs)
 case_Tuple n c xs hxs =
     good_by (expr.Tuple n c xs) (restore_expr (bare_expr (expr.Tuple n c xs))) (headed (bare n) (λ n. seq (ret (λ xs. expr.Tuple n c xs)) (all (map restore_expr (map bare_expr xs))))) (nodes_of_expr (expr.Tuple n c xs)) (n ∷ joined (([]) ++ (map nodes_of_expr xs)))
-    (ap restore_expr (shape.bare_Tuple n c xs) ∙ restore_Tuple (bare n) c (map bare_expr xs)) (q.expr_Tuple before_parts n c xs)
+    (ap restore_expr (shape.expr_Tuple n c xs) ∙ restore_Tuple (bare n) c (map bare_expr xs)) (q.expr_Tuple before_parts n c xs)
     (good_headed n (expr.Tuple n c xs) (λ n. seq (ret (λ xs. expr.Tuple n c xs)) (all (map restore_expr (map bare_expr xs)))) (([]) ++ (map nodes_of_expr xs)) (seq_parts (λ xs. expr.Tuple n c xs) (ret (λ xs. expr.Tuple n c xs)) ([]) xs (all (map restore_expr (map bare_expr xs))) (map nodes_of_expr xs) (ret_parts (λ xs. expr.Tuple n c xs)) (all_parts restore_expr bare_expr nodes_of_expr xs hxs)))
 
 case_List : (n : Node) (xs : List Expr) → Each GoodExpr xs → GoodExpr (expr.List n xs)
 case_List n xs hxs =
     good_by (expr.List n xs) (restore_expr (bare_expr (expr.List n xs))) (headed (bare n) (λ n. seq (ret (λ xs. expr.List n xs)) (all (map restore_expr (map bare_expr xs))))) (nodes_of_expr (expr.List n xs)) (n ∷ joined (([]) ++ (map nodes_of_expr xs)))
-    (ap restore_expr (shape.bare_List n xs) ∙ restore_List (bare n) (map bare_expr xs)) (q.expr_List before_parts n xs)
+    (ap restore_expr (shape.expr_List n xs) ∙ restore_List (bare n) (map bare_expr xs)) (q.expr_List before_parts n xs)
     (good_headed n (expr.List n xs) (λ n. seq (ret (λ xs. expr.List n xs)) (all (map restore_expr (map bare_expr xs)))) (([]) ++ (map nodes_of_expr xs)) (seq_parts (λ xs. expr.List n xs) (ret (λ xs. expr.List n xs)) ([]) xs (all (map restore_expr (map bare_expr xs))) (map nodes_of_expr xs) (ret_parts (λ xs. expr.List n xs)) (all_parts restore_expr bare_expr nodes_of_expr xs hxs)))
 
 case_Comprehension : (n : Node) (x : Expr) (ns : LoopNames) (y : Expr) (z : Option Expr) → GoodExpr x → GoodExpr y → GoodOption z → GoodExpr (expr.Comprehension n x ns y z)
 case_Comprehension n x ns y z hx hy hz =
     good_by (expr.Comprehension n x ns y z) (restore_expr (bare_expr (expr.Comprehension n x ns y z))) (headed (bare n) (λ n. seq (seq (seq (seq (ret (λ x ns y z. expr.Comprehension n x ns y z)) (restore_expr (bare_expr x))) (restore_loop (bare_loop_names ns))) (restore_expr (bare_expr y))) (opt (option_map restore_expr (bare_optional bare_expr z))))) (nodes_of_expr (expr.Comprehension n x ns y z)) (n ∷ joined ((((([]) ++ (nodes_of_expr x ∷ [])) ++ (of_loop_names before_parts ns)) ++ (nodes_of_expr y ∷ [])) ++ (optional (option_map nodes_of_expr z))))
-    (ap restore_expr (shape.bare_Comprehension n x ns y z) ∙ restore_Comprehension (bare n) (bare_expr x) (bare_loop_names ns) (bare_expr y) (bare_optional bare_expr z)) ((q.expr_Comprehension before_parts n x ns y z) ∙ ap (λ z. n ∷ joined (nodes_of_expr x ∷ z)) (sym (append_assoc (of_loop_names before_parts ns) (nodes_of_expr y ∷ []) (optional (option_map nodes_of_expr z)))))
+    (ap restore_expr (shape.expr_Comprehension n x ns y z) ∙ restore_Comprehension (bare n) (bare_expr x) (bare_loop_names ns) (bare_expr y) (bare_optional bare_expr z)) ((q.expr_Comprehension before_parts n x ns y z) ∙ ap (λ z. n ∷ joined (nodes_of_expr x ∷ z)) (sym (append_assoc (of_loop_names before_parts ns) (nodes_of_expr y ∷ []) (optional (option_map nodes_of_expr z)))))
     (good_headed n (expr.Comprehension n x ns y z) (λ n. seq (seq (seq (seq (ret (λ x ns y z. expr.Comprehension n x ns y z)) (restore_expr (bare_expr x))) (restore_loop (bare_loop_names ns))) (restore_expr (bare_expr y))) (opt (option_map restore_expr (bare_optional bare_expr z)))) ((((([]) ++ (nodes_of_expr x ∷ [])) ++ (of_loop_names before_parts ns)) ++ (nodes_of_expr y ∷ [])) ++ (optional (option_map nodes_of_expr z))) (seq_parts (λ z. expr.Comprehension n x ns y z) (seq (seq (seq (ret (λ x ns y z. expr.Comprehension n x ns y z)) (restore_expr (bare_expr x))) (restore_loop (bare_loop_names ns))) (restore_expr (bare_expr y))) (((([]) ++ (nodes_of_expr x ∷ [])) ++ (of_loop_names before_parts ns)) ++ (nodes_of_expr y ∷ [])) z (opt (option_map restore_expr (bare_optional bare_expr z))) (optional (option_map nodes_of_expr z)) (seq_parts (λ y z. expr.Comprehension n x ns y z) (seq (seq (ret (λ x ns y z. expr.Comprehension n x ns y z)) (restore_expr (bare_expr x))) (restore_loop (bare_loop_names ns))) ((([]) ++ (nodes_of_expr x ∷ [])) ++ (of_loop_names before_parts ns)) y (restore_expr (bare_expr y)) (nodes_of_expr y ∷ []) (seq_parts (λ ns y z. expr.Comprehension n x ns y z) (seq (ret (λ x ns y z. expr.Comprehension n x ns y z)) (restore_expr (bare_expr x))) (([]) ++ (nodes_of_expr x ∷ [])) ns (restore_loop (bare_loop_names ns)) (of_loop_names before_parts ns) (seq_parts (λ x ns y z. expr.Comprehension n x ns y z) (ret (λ x ns y z. expr.Comprehension n x ns y z)) ([]) x (restore_expr (bare_expr x)) (nodes_of_expr x ∷ []) (ret_parts (λ x ns y z. expr.Comprehension n x ns y z)) (one x (restore_expr (bare_expr x)) (nodes_of_expr x) hx)) (loop_parts ns)) (one y (restore_expr (bare_expr y)) (nodes_of_expr y) hy)) (opt_parts z hz)))
 
 case_Conditional : (n : Node) (x : Expr) (y : Expr) (z : Expr) → GoodExpr x → GoodExpr y → GoodExpr z → GoodExpr (expr.Conditional n x y z)
 case_Conditional n x y z hx hy hz =
     good_by (expr.Conditional n x y z) (restore_expr (bare_expr (expr.Conditional n x y z))) (headed (bare n) (λ n. seq (seq (seq (ret (λ x y z. expr.Conditional n x y z)) (restore_expr (bare_expr x))) (restore_expr (bare_expr y))) (restore_expr (bare_expr z)))) (nodes_of_expr (expr.Conditional n x y z)) (n ∷ joined (((([]) ++ (nodes_of_expr x ∷ [])) ++ (nodes_of_expr y ∷ [])) ++ (nodes_of_expr z ∷ [])))
-    (ap restore_expr (shape.bare_Conditional n x y z) ∙ restore_Conditional (bare n) (bare_expr x) (bare_expr y) (bare_expr z)) (q.expr_Conditional before_parts n x y z)
+    (ap restore_expr (shape.expr_Conditional n x y z) ∙ restore_Conditional (bare n) (bare_expr x) (bare_expr y) (bare_expr z)) (q.expr_Conditional before_parts n x y z)
     (good_headed n (expr.Conditional n x y z) (λ n. seq (seq (seq (ret (λ x y z. expr.Conditional n x y z)) (restore_expr (bare_expr x))) (restore_expr (bare_expr y))) (restore_expr (bare_expr z))) (((([]) ++ (nodes_of_expr x ∷ [])) ++ (nodes_of_expr y ∷ [])) ++ (nodes_of_expr z ∷ [])) (seq_parts (λ z. expr.Conditional n x y z) (seq (seq (ret (λ x y z. expr.Conditional n x y z)) (restore_expr (bare_expr x))) (restore_expr (bare_expr y))) ((([]) ++ (nodes_of_expr x ∷ [])) ++ (nodes_of_expr y ∷ [])) z (restore_expr (bare_expr z)) (nodes_of_expr z ∷ []) (seq_parts (λ y z. expr.Conditional n x y z) (seq (ret (λ x y z. expr.Conditional n x y z)) (restore_expr (bare_expr x))) (([]) ++ (nodes_of_expr x ∷ [])) y (restore_expr (bare_expr y)) (nodes_of_expr y ∷ []) (seq_parts (λ x y z. expr.Conditional n x y z) (ret (λ x y z. expr.Conditional n x y z)) ([]) x (restore_expr (bare_expr x)) (nodes_of_expr x ∷ []) (ret_parts (λ x y z. expr.Conditional n x y z)) (one x (restore_expr (bare_expr x)) (nodes_of_expr x) hx)) (one y (restore_expr (bare_expr y)) (nodes_of_expr y) hy)) (one z (restore_expr (bare_expr z)) (nodes_of_expr z) hz)))
 
 case_Or : (n : Node) (xs : List Expr) → Each GoodExpr xs → GoodExpr (expr.Or n xs)
 case_Or n xs hxs =
     good_by (expr.Or n xs) (restore_expr (bare_expr (expr.Or n xs))) (headed (bare n) (λ n. seq (ret (λ xs. expr.Or n xs)) (all (map restore_expr (map bare_expr xs))))) (nodes_of_expr (expr.Or n xs)) (n ∷ joined (([]) ++ (map nodes_of_expr xs)))
-    (ap restore_expr (shape.bare_Or n xs) ∙ restore_Or (bare n) (map bare_expr xs)) (q.expr_Or before_parts n xs)
+    (ap restore_expr (shape.expr_Or n xs) ∙ restore_Or (bare n) (map bare_expr xs)) (q.expr_Or before_parts n xs)
     (good_headed n (expr.Or n xs) (λ n. seq (ret (λ xs. expr.Or n xs)) (all (map restore_expr (map bare_expr xs)))) (([]) ++ (map nodes_of_expr xs)) (seq_parts (λ xs. expr.Or n xs) (ret (λ xs. expr.Or n xs)) ([]) xs (all (map restore_expr (map bare_expr xs))) (map nodes_of_expr xs) (ret_parts (λ xs. expr.Or n xs)) (all_parts restore_expr bare_expr nodes_of_expr xs hxs)))
 
 case_And : (n : Node) (xs : List Expr) → Each GoodExpr xs → GoodExpr (expr.And n xs)
 case_And n xs hxs =
     good_by (expr.And n xs) (restore_expr (bare_expr (expr.And n xs))) (headed (bare n) (λ n. seq (ret (λ xs. expr.And n xs)) (all (map restore_expr (map bare_expr xs))))) (nodes_of_expr (expr.And n xs)) (n ∷ joined (([]) ++ (map nodes_of_expr xs)))
-    (ap restore_expr (shape.bare_And n xs) ∙ restore_And (bare n) (map bare_expr xs)) (q.expr_And before_parts n xs)
+    (ap restore_expr (shape.expr_And n xs) ∙ restore_And (bare n) (map bare_expr xs)) (q.expr_And before_parts n xs)
     (good_headed n (expr.And n xs) (λ n. seq (ret (λ xs. expr.And n xs)) (all (map restore_expr (map bare_expr xs)))) (([]) ++ (map nodes_of_expr xs)) (seq_parts (λ xs. expr.And n xs) (ret (λ xs. expr.And n xs)) ([]) xs (all (map restore_expr (map bare_expr xs))) (map nodes_of_expr xs) (ret_parts (λ xs. expr.And n xs)) (all_parts restore_expr bare_expr nodes_of_expr xs hxs)))
 
 case_Not : (n : Node) (x : Expr) → GoodExpr x → GoodExpr (expr.Not n x)
 case_Not n x hx =
     good_by (expr.Not n x) (restore_expr (bare_expr (expr.Not n x))) (headed (bare n) (λ n. seq (ret (λ x. expr.Not n x)) (restore_expr (bare_expr x)))) (nodes_of_expr (expr.Not n x)) (n ∷ joined (([]) ++ (nodes_of_expr x ∷ [])))
-    (ap restore_expr (shape.bare_Not n x) ∙ restore_Not (bare n) (bare_expr x)) (q.expr_Not before_parts n x)
+    (ap restore_expr (shape.expr_Not n x) ∙ restore_Not (bare n) (bare_expr x)) (q.expr_Not before_parts n x)
     (good_headed n (expr.Not n x) (λ n. seq (ret (λ x. expr.Not n x)) (restore_expr (bare_expr x))) (([]) ++ (nodes_of_expr x ∷ [])) (seq_parts (λ x. expr.Not n x) (ret (λ x. expr.Not n x)) ([]) x (restore_expr (bare_expr x)) (nodes_of_expr x ∷ []) (ret_parts (λ x. expr.Not n x)) (one x (restore_expr (bare_expr x)) (nodes_of_expr x) hx)))
 
 case_Compare : (n : Node) (x : Expr) (cs : List Comparison) → GoodExpr x → Each GoodComparison cs → GoodExpr (expr.Compare n x cs)
 case_Compare n x cs hx hcs =
     good_by (expr.Compare n x cs) (restore_expr (bare_expr (expr.Compare n x cs))) (headed (bare n) (λ n. seq (seq (ret (λ x cs. expr.Compare n x cs)) (restore_expr (bare_expr x))) (all (map restore_comparison (map bare_comparison cs))))) (nodes_of_expr (expr.Compare n x cs)) (n ∷ joined ((([]) ++ (nodes_of_expr x ∷ [])) ++ (map (of_comparison before_parts) cs)))
-    (ap restore_expr (shape.bare_Compare n x cs) ∙ restore_Compare (bare n) (bare_expr x) (map bare_comparison cs)) (q.expr_Compare before_parts n x cs)
+    (ap restore_expr (shape.expr_Compare n x cs) ∙ restore_Compare (bare n) (bare_expr x) (map bare_comparison cs)) (q.expr_Compare before_parts n x cs)
     (good_headed n (expr.Compare n x cs) (λ n. seq (seq (ret (λ x cs. expr.Compare n x cs)) (restore_expr (bare_expr x))) (all (map restore_comparison (map bare_comparison cs)))) ((([]) ++ (nodes_of_expr x ∷ [])) ++ (map (of_comparison before_parts) cs)) (seq_parts (λ cs. expr.Compare n x cs) (seq (ret (λ x cs. expr.Compare n x cs)) (restore_expr (bare_expr x))) (([]) ++ (nodes_of_expr x ∷ [])) cs (all (map restore_comparison (map bare_comparison cs))) (map (of_comparison before_parts) cs) (seq_parts (λ x cs. expr.Compare n x cs) (ret (λ x cs. expr.Compare n x cs)) ([]) x (restore_expr (bare_expr x)) (nodes_of_expr x ∷ []) (ret_parts (λ x cs. expr.Compare n x cs)) (one x (restore_expr (bare_expr x)) (nodes_of_expr x) hx)) (all_parts restore_comparison bare_comparison (of_comparison before_parts) cs hcs)))
 
 case_Unary : (n : Node) (o : UnaryOp) (x : Expr) → GoodExpr x → GoodExpr (expr.Unary n o x)
 case_Unary n o x hx =
     good_by (expr.Unary n o x) (restore_expr (bare_expr (expr.Unary n o x))) (headed (bare n) (λ n. seq (ret (λ x. expr.Unary n o x)) (restore_expr (bare_expr x)))) (nodes_of_expr (expr.Unary n o x)) (n ∷ joined (([]) ++ (nodes_of_expr x ∷ [])))
-    (ap restore_expr (shape.bare_Unary n o x) ∙ restore_Unary (bare n) o (bare_expr x)) (q.expr_Unary before_parts n o x)
+    (ap restore_expr (shape.expr_Unary n o x) ∙ restore_Unary (bare n) o (bare_expr x)) (q.expr_Unary before_parts n o x)
     (good_headed n (expr.Unary n o x) (λ n. seq (ret (λ x. expr.Unary n o x)) (restore_expr (bare_expr x))) (([]) ++ (nodes_of_expr x ∷ [])) (seq_parts (λ x. expr.Unary n o x) (ret (λ x. expr.Unary n o x)) ([]) x (restore_expr (bare_expr x)) (nodes_of_expr x ∷ []) (ret_parts (λ x. expr.Unary n o x)) (one x (restore_expr (bare_expr x)) (nodes_of_expr x) hx)))
 
 case_Binary : (n : Node) (o : BinaryOp) (x : Expr) (y : Expr) → GoodExpr x → GoodExpr y → GoodExpr (expr.Binary n o x y)
 case_Binary n o x y hx hy =
     good_by (expr.Binary n o x y) (restore_expr (bare_expr (expr.Binary n o x y))) (headed (bare n) (λ n. seq (seq (ret (λ x y. expr.Binary n o x y)) (restore_expr (bare_expr x))) (restore_expr (bare_expr y)))) (nodes_of_expr (expr.Binary n o x y)) (n ∷ joined ((([]) ++ (nodes_of_expr x ∷ [])) ++ (nodes_of_expr y ∷ [])))
-    (ap restore_expr (shape.bare_Binary n o x y) ∙ restore_Binary (bare n) o (bare_expr x) (bare_expr y)) (q.expr_Binary before_parts n o x y)
+    (ap restore_expr (shape.expr_Binary n o x y) ∙ restore_Binary (bare n) o (bare_expr x) (bare_expr y)) (q.expr_Binary before_parts n o x y)
     (good_headed n (expr.Binary n o x y) (λ n. seq (seq (ret (λ x y. expr.Binary n o x y)) (restore_expr (bare_expr x))) (restore_expr (bare_expr y))) ((([]) ++ (nodes_of_expr x ∷ [])) ++ (nodes_of_expr y ∷ [])) (seq_parts (λ y. expr.Binary n o x y) (seq (ret (λ x y. expr.Binary n o x y)) (restore_expr (bare_expr x))) (([]) ++ (nodes_of_expr x ∷ [])) y (restore_expr (bare_expr y)) (nodes_of_expr y ∷ []) (seq_parts (λ x y. expr.Binary n o x y) (ret (λ x y. expr.Binary n o x y)) ([]) x (restore_expr (bare_expr x)) (nodes_of_expr x ∷ []) (ret_parts (λ x y. expr.Binary n o x y)) (one x (restore_expr (bare_expr x)) (nodes_of_expr x) hx)) (one y (restore_expr (bare_expr y)) (nodes_of_expr y) hy)))
 
 case_Call : (n : Node) (f : Name) (xs : List Expr) → Each GoodExpr xs → GoodExpr (expr.Call n f xs)
 case_Call n f xs hxs =
     good_by (expr.Call n f xs) (restore_expr (bare_expr (expr.Call n f xs))) (headed (bare n) (λ n. seq (seq (ret (λ f xs. expr.Call n f xs)) (restore_name (bare_name f))) (all (map restore_expr (map bare_expr xs))))) (nodes_of_expr (expr.Call n f xs)) (n ∷ joined ((([]) ++ (of_name before_parts f ∷ [])) ++ (map nodes_of_expr xs)))
-    (ap restore_expr (shape.bare_Call n f xs) ∙ restore_Call (bare n) (bare_name f) (map bare_expr xs)) (q.expr_Call before_parts n f xs)
+    (ap restore_expr (shape.expr_Call n f xs) ∙ restore_Call (bare n) (bare_name f) (map bare_expr xs)) (q.expr_Call before_parts n f xs)
     (good_headed n (expr.Call n f xs) (λ n. seq (seq (ret (λ f xs. expr.Call n f xs)) (restore_name (bare_name f))) (all (map restore_expr (map bare_expr xs)))) ((([]) ++ (of_name before_parts f ∷ [])) ++ (map nodes_of_expr xs)) (seq_parts (λ xs. expr.Call n f xs) (seq (ret (λ f xs. expr.Call n f xs)) (restore_name (bare_name f))) (([]) ++ (of_name before_parts f ∷ [])) xs (all (map restore_expr (map bare_expr xs))) (map nodes_of_expr xs) (seq_parts (λ f xs. expr.Call n f xs) (ret (λ f xs. expr.Call n f xs)) ([]) f (restore_name (bare_name f)) (of_name before_parts f ∷ []) (ret_parts (λ f xs. expr.Call n f xs)) (one f (restore_name (bare_name f)) (of_name before_parts f) (good_name f))) (all_parts restore_expr bare_expr nodes_of_expr xs hxs)))
 
 case_MethodCall : (n : Node) (m : Node) (x : Expr) (s : List ℕ) (xs : List Expr) → GoodExpr x → Each GoodExpr xs → GoodExpr (expr.MethodCall n m x s xs)
 case_MethodCall n m x s xs hx hxs =
     good_by (expr.MethodCall n m x s xs) (restore_expr (bare_expr (expr.MethodCall n m x s xs))) (headed (bare n) (λ n. seq (seq (ret (method_call n s)) (headed m (λ m. seq (ret (with_node m)) (restore_expr (bare_expr x))))) (all (map restore_expr (map bare_expr xs))))) (nodes_of_expr (expr.MethodCall n m x s xs)) (n ∷ joined ((m ∷ joined (nodes_of_expr x ∷ [])) ∷ map nodes_of_expr xs))
-    (ap restore_expr (shape.bare_MethodCall n m x s xs) ∙ restore_MethodCall (bare n) (bare m) (bare_expr x) s (map bare_expr xs)) (q.expr_MethodCall before_parts n m x s xs)
+    (ap restore_expr (shape.expr_MethodCall n m x s xs) ∙ restore_MethodCall (bare n) (bare m) (bare_expr x) s (map bare_expr xs)) (q.expr_MethodCall before_parts n m x s xs)
     (good_headed n (expr.MethodCall n m x s xs) (λ n. seq (seq (ret (method_call n s)) (headed m (λ m. seq (ret (with_node m)) (restore_expr (bare_expr x))))) (all (map restore_expr (map bare_expr xs)))) ((m ∷ joined (nodes_of_expr x ∷ [])) ∷ map nodes_of_expr xs) (seq_parts (method_call n s (m, x)) (seq (ret (method_call n s)) (headed (bare m) (λ m. seq (ret (with_node m)) (restore_expr (bare_expr x))))) ((m ∷ joined (nodes_of_expr x ∷ [])) ∷ []) xs (all (map restore_expr (map bare_expr xs))) (map nodes_of_expr xs) (seq_parts (method_call n s) (ret (method_call n s)) [] (m, x) (headed (bare m) (λ m. seq (ret (with_node m)) (restore_expr (bare_expr x)))) ((m ∷ joined (nodes_of_expr x ∷ [])) ∷ []) (ret_parts (method_call n s)) (one (m, x) (headed (bare m) (λ m. seq (ret (with_node m)) (restore_expr (bare_expr x)))) (m ∷ joined (nodes_of_expr x ∷ [])) (good_headed m (m, x) (λ m. seq (ret (with_node m)) (restore_expr (bare_expr x))) (nodes_of_expr x ∷ []) (seq_parts (with_node m) (ret (with_node m)) [] x (restore_expr (bare_expr x)) (nodes_of_expr x ∷ []) (ret_parts (with_node m)) (one x (restore_expr (bare_expr x)) (nodes_of_expr x) hx))))) (all_parts restore_expr bare_expr nodes_of_expr xs hxs)))
 
 case_Index : (n : Node) (x : Expr) (y : Expr) → GoodExpr x → GoodExpr y → GoodExpr (expr.Index n x y)
 case_Index n x y hx hy =
     good_by (expr.Index n x y) (restore_expr (bare_expr (expr.Index n x y))) (headed (bare n) (λ n. seq (seq (ret (λ x y. expr.Index n x y)) (restore_expr (bare_expr x))) (restore_expr (bare_expr y)))) (nodes_of_expr (expr.Index n x y)) (n ∷ joined ((([]) ++ (nodes_of_expr x ∷ [])) ++ (nodes_of_expr y ∷ [])))
-    (ap restore_expr (shape.bare_Index n x y) ∙ restore_Index (bare n) (bare_expr x) (bare_expr y)) (q.expr_Index before_parts n x y)
+    (ap restore_expr (shape.expr_Index n x y) ∙ restore_Index (bare n) (bare_expr x) (bare_expr y)) (q.expr_Index before_parts n x y)
     (good_headed n (expr.Index n x y) (λ n. seq (seq (ret (λ x y. expr.Index n x y)) (restore_expr (bare_expr x))) (restore_expr (bare_expr y))) ((([]) ++ (nodes_of_expr x ∷ [])) ++ (nodes_of_expr y ∷ [])) (seq_parts (λ y. expr.Index n x y) (seq (ret (λ x y. expr.Index n x y)) (restore_expr (bare_expr x))) (([]) ++ (nodes_of_expr x ∷ [])) y (restore_expr (bare_expr y)) (nodes_of_expr y ∷ []) (seq_parts (λ x y. expr.Index n x y) (ret (λ x y. expr.Index n x y)) ([]) x (restore_expr (bare_expr x)) (nodes_of_expr x ∷ []) (ret_parts (λ x y. expr.Index n x y)) (one x (restore_expr (bare_expr x)) (nodes_of_expr x) hx)) (one y (restore_expr (bare_expr y)) (nodes_of_expr y) hy)))
 
 case_Slice : (n : Node) (x : Expr) (y : Option Expr) (z : Option Expr) → GoodExpr x → GoodOption y → GoodOption z → GoodExpr (expr.Slice n x y z)
 case_Slice n x y z hx hy hz =
     good_by (expr.Slice n x y z) (restore_expr (bare_expr (expr.Slice n x y z))) (headed (bare n) (λ n. seq (seq (seq (ret (λ x y z. expr.Slice n x y z)) (restore_expr (bare_expr x))) (opt (option_map restore_expr (bare_optional bare_expr y)))) (opt (option_map restore_expr (bare_optional bare_expr z))))) (nodes_of_expr (expr.Slice n x y z)) (n ∷ joined (((([]) ++ (nodes_of_expr x ∷ [])) ++ (optional (option_map nodes_of_expr y))) ++ (optional (option_map nodes_of_expr z))))
-    (ap restore_expr (shape.bare_Slice n x y z) ∙ restore_Slice (bare n) (bare_expr x) (bare_optional bare_expr y) (bare_optional bare_expr z)) (q.expr_Slice before_parts n x y z)
+    (ap restore_expr (shape.expr_Slice n x y z) ∙ restore_Slice (bare n) (bare_expr x) (bare_optional bare_expr y) (bare_optional bare_expr z)) (q.expr_Slice before_parts n x y z)
     (good_headed n (expr.Slice n x y z) (λ n. seq (seq (seq (ret (λ x y z. expr.Slice n x y z)) (restore_expr (bare_expr x))) (opt (option_map restore_expr (bare_optional bare_expr y)))) (opt (option_map restore_expr (bare_optional bare_expr z)))) (((([]) ++ (nodes_of_expr x ∷ [])) ++ (optional (option_map nodes_of_expr y))) ++ (optional (option_map nodes_of_expr z))) (seq_parts (λ z. expr.Slice n x y z) (seq (seq (ret (λ x y z. expr.Slice n x y z)) (restore_expr (bare_expr x))) (opt (option_map restore_expr (bare_optional bare_expr y)))) ((([]) ++ (nodes_of_expr x ∷ [])) ++ (optional (option_map nodes_of_expr y))) z (opt (option_map restore_expr (bare_optional bare_expr z))) (optional (option_map nodes_of_expr z)) (seq_parts (λ y z. expr.Slice n x y z) (seq (ret (λ x y z. expr.Slice n x y z)) (restore_expr (bare_expr x))) (([]) ++ (nodes_of_expr x ∷ [])) y (opt (option_map restore_expr (bare_optional bare_expr y))) (optional (option_map nodes_of_expr y)) (seq_parts (λ x y z. expr.Slice n x y z) (ret (λ x y z. expr.Slice n x y z)) ([]) x (restore_expr (bare_expr x)) (nodes_of_expr x ∷ []) (ret_parts (λ x y z. expr.Slice n x y z)) (one x (restore_expr (bare_expr x)) (nodes_of_expr x) hx)) (opt_parts y hy)) (opt_parts z hz)))
 
 case_Field : (n : Node) (x : Expr) (s : List ℕ) → GoodExpr x → GoodExpr (expr.Field n x s)
 case_Field n x s hx =
     good_by (expr.Field n x s) (restore_expr (bare_expr (expr.Field n x s))) (headed (bare n) (λ n. seq (ret (λ x. expr.Field n x s)) (restore_expr (bare_expr x)))) (nodes_of_expr (expr.Field n x s)) (n ∷ joined (([]) ++ (nodes_of_expr x ∷ [])))
-    (ap restore_expr (shape.bare_Field n x s) ∙ restore_Field (bare n) (bare_expr x) s) (q.expr_Field before_parts n x s)
+    (ap restore_expr (shape.expr_Field n x s) ∙ restore_Field (bare n) (bare_expr x) s) (q.expr_Field before_parts n x s)
     (good_headed n (expr.Field n x s) (λ n. seq (ret (λ x. expr.Field n x s)) (restore_expr (bare_expr x))) (([]) ++ (nodes_of_expr x ∷ [])) (seq_parts (λ x. expr.Field n x s) (ret (λ x. expr.Field n x s)) ([]) x (restore_expr (bare_expr x)) (nodes_of_expr x ∷ []) (ret_parts (λ x. expr.Field n x s)) (one x (restore_expr (bare_expr x)) (nodes_of_expr x) hx)))
 
 abbrev Part : Type 0

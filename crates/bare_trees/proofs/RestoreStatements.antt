@@ -30,7 +30,7 @@ use Rattle.source_trees.specs.Bare.{bare, bare_name, bare_loop_names, bare_expr,
 use Rattle.source_trees.specs.Nodes.{joined, before_parts, nodes_of_expr, nodes_of_annotation, nodes_of_target, nodes_of_targets, nodes_of_stage, nodes_of_stmt, nodes_of_for}
 use Rattle.source_trees.specs.Parts.{of_name, of_loop_names, of_optional_expr, of_print_options, of_printed, of_stage_form, of_arm}
 use Rattle.source_trees.proofs.Equations as q
-use Rattle.bare_trees.proofs.BareForms as shape
+use Rattle.source_trees.proofs.BareForms as shape
 use Rattle.bare_trees.proofs.Restore.{State, headed, ret, seq, all, opt, Good, Parts, ret_parts, seq_parts, one, good_headed, good_by, Each, all_parts, each_by, restore_name, good_name, restore_loop, loop_parts, restore_expr, good_expr}
 
 -- one value of which another is made
@@ -77,7 +77,7 @@ restore_Int n = ap restore_type (sym (annotation.rolls-Int n)) ∙ fold-roll-Ann
 case_Int : (n : Node) → GoodType (annotation.Int n)
 case_Int n =
     good_by (annotation.Int n) (restore_type (bare_annotation (annotation.Int n))) (headed (bare n) (λ n. ret (annotation.Int n))) (nodes_of_annotation (annotation.Int n)) (n ∷ joined [])
-    (ap restore_type (shape.type_Int n) ∙ restore_Int (bare n)) (q.annotation_Int before_parts n) (good_headed n (annotation.Int n) (λ n. ret (annotation.Int n)) [] (ret_parts (annotation.Int n)))
+    (ap restore_type (shape.annotation_Int n) ∙ restore_Int (bare n)) (q.annotation_Int before_parts n) (good_headed n (annotation.Int n) (λ n. ret (annotation.Int n)) [] (ret_parts (annotation.Int n)))
 
 restore_Bool : (n : Node) → restore_type (annotation.Bool n) ≡ headed n (λ n. ret (annotation.Bool n))
 unfolding restore_type
@@ -86,7 +86,7 @@ restore_Bool n = ap restore_type (sym (annotation.rolls-Bool n)) ∙ fold-roll-A
 case_Bool : (n : Node) → GoodType (annotation.Bool n)
 case_Bool n =
     good_by (annotation.Bool n) (restore_type (bare_annotation (annotation.Bool n))) (headed (bare n) (λ n. ret (annotation.Bool n))) (nodes_of_annotation (annotation.Bool n)) (n ∷ joined [])
-    (ap restore_type (shape.type_Bool n) ∙ restore_Bool (bare n)) (q.annotation_Bool before_parts n) (good_headed n (annotation.Bool n) (λ n. ret (annotation.Bool n)) [] (ret_parts (annotation.Bool n)))
+    (ap restore_type (shape.annotation_Bool n) ∙ restore_Bool (bare n)) (q.annotation_Bool before_parts n) (good_headed n (annotation.Bool n) (λ n. ret (annotation.Bool n)) [] (ret_parts (annotation.Bool n)))
 
 restore_Str : (n : Node) → restore_type (annotation.Str n) ≡ headed n (λ n. ret (annotation.Str n))
 unfolding restore_type
@@ -95,7 +95,7 @@ restore_Str n = ap restore_type (sym (annotation.rolls-Str n)) ∙ fold-roll-Ann
 case_Str : (n : Node) → GoodType (annotation.Str n)
 case_Str n =
     good_by (annotation.Str n) (restore_type (bare_annotation (annotation.Str n))) (headed (bare n) (λ n. ret (annotation.Str n))) (nodes_of_annotation (annotation.Str n)) (n ∷ joined [])
-    (ap restore_type (shape.type_Str n) ∙ restore_Str (bare n)) (q.annotation_Str before_parts n) (good_headed n (annotation.Str n) (λ n. ret (annotation.Str n)) [] (ret_parts (annotation.Str n)))
+    (ap restore_type (shape.annotation_Str n) ∙ restore_Str (bare n)) (q.annotation_Str before_parts n) (good_headed n (annotation.Str n) (λ n. ret (annotation.Str n)) [] (ret_parts (annotation.Str n)))
 
 restore_None : (n : Node) → restore_type (annotation.None n) ≡ headed n (λ n. ret (annotation.None n))
 unfolding restore_type
@@ -104,7 +104,7 @@ restore_None n = ap restore_type (sym (annotation.rolls-None n)) ∙ fold-roll-A
 case_None : (n : Node) → GoodType (annotation.None n)
 case_None n =
     good_by (annotation.None n) (restore_type (bare_annotation (annotation.None n))) (headed (bare n) (λ n. ret (annotation.None n))) (nodes_of_annotation (annotation.None n)) (n ∷ joined [])
-    (ap restore_type (shape.type_None n) ∙ restore_None (bare n)) (q.annotation_None before_parts n) (good_headed n (annotation.None n) (λ n. ret (annotation.None n)) [] (ret_parts (annotation.None n)))
+    (ap restore_type (shape.annotation_None n) ∙ restore_None (bare n)) (q.annotation_None before_parts n) (good_headed n (annotation.None n) (λ n. ret (annotation.None n)) [] (ret_parts (annotation.None n)))
 
 restore_Class : (n : Node) (s : List ℕ) → restore_type (annotation.Class n s) ≡ headed n (λ n. ret (annotation.Class n s))
 unfolding restore_type
@@ -113,7 +113,7 @@ restore_Class n s = ap restore_type (sym (annotation.rolls-Class n s)) ∙ fold-
 case_Class : (n : Node) (s : List ℕ) → GoodType (annotation.Class n s)
 case_Class n s =
     good_by (annotation.Class n s) (restore_type (bare_annotation (annotation.Class n s))) (headed (bare n) (λ n. ret (annotation.Class n s))) (nodes_of_annotation (annotation.Class n s)) (n ∷ joined [])
-    (ap restore_type (shape.type_Class n s) ∙ restore_Class (bare n) s) (q.annotation_Class before_parts n s) (good_headed n (annotation.Class n s) (λ n. ret (annotation.Class n s)) [] (ret_parts (annotation.Class n s)))
+    (ap restore_type (shape.annotation_Class n s) ∙ restore_Class (bare n) s) (q.annotation_Class before_parts n s) (good_headed n (annotation.Class n s) (λ n. ret (annotation.Class n s)) [] (ret_parts (annotation.Class n s)))
 
 restore_List : (n : Node) (x : Annotation) → restore_type (annotation.List n x) ≡ headed n (λ n. seq (ret (annotation.List n)) (restore_type x))
 unfolding restore_type
@@ -122,7 +122,7 @@ restore_List n x = ap restore_type (sym (annotation.rolls-List n x)) ∙ fold-ro
 case_List : (n : Node) (x : Annotation) → GoodType x → GoodType (annotation.List n x)
 case_List n x h =
     good_by (annotation.List n x) (restore_type (bare_annotation (annotation.List n x))) (headed (bare n) (λ n. seq (ret (annotation.List n)) (restore_type (bare_annotation x)))) (nodes_of_annotation (annotation.List n x)) (n ∷ joined (nodes_of_annotation x ∷ []))
-    (ap restore_type (shape.type_List n x) ∙ restore_List (bare n) (bare_annotation x)) (q.annotation_List before_parts n x) (good_headed n (annotation.List n x) (λ n. seq (ret (annotation.List n)) (restore_type (bare_annotation x))) (nodes_of_annotation x ∷ []) (seq_parts (annotation.List n) (ret (annotation.List n)) [] x (restore_type (bare_annotation x)) (nodes_of_annotation x ∷ []) (ret_parts (annotation.List n)) (one x (restore_type (bare_annotation x)) (nodes_of_annotation x) h)))
+    (ap restore_type (shape.annotation_List n x) ∙ restore_List (bare n) (bare_annotation x)) (q.annotation_List before_parts n x) (good_headed n (annotation.List n x) (λ n. seq (ret (annotation.List n)) (restore_type (bare_annotation x))) (nodes_of_annotation x ∷ []) (seq_parts (annotation.List n) (ret (annotation.List n)) [] x (restore_type (bare_annotation x)) (nodes_of_annotation x ∷ []) (ret_parts (annotation.List n)) (one x (restore_type (bare_annotation x)) (nodes_of_annotation x) h)))
 
 restore_Tuple : (n : Node) (xs : List Annotation) → restore_type (annotation.Tuple n xs) ≡ headed n (λ n. seq (ret (annotation.Tuple n)) (all (map restore_type xs)))
 unfolding restore_type
@@ -131,7 +131,7 @@ restore_Tuple n xs = ap restore_type (sym (annotation.rolls-Tuple n xs)) ∙ fol
 case_Tuple : (n : Node) (xs : List Annotation) → Each GoodType xs → GoodType (annotation.Tuple n xs)
 case_Tuple n xs h =
     good_by (annotation.Tuple n xs) (restore_type (bare_annotation (annotation.Tuple n xs))) (headed (bare n) (λ n. seq (ret (annotation.Tuple n)) (all (map restore_type (map bare_annotation xs))))) (nodes_of_annotation (annotation.Tuple n xs)) (n ∷ joined (map nodes_of_annotation xs))
-    (ap restore_type (shape.type_Tuple n xs) ∙ restore_Tuple (bare n) (map bare_annotation xs)) (q.annotation_Tuple before_parts n xs) (good_headed n (annotation.Tuple n xs) (λ n. seq (ret (annotation.Tuple n)) (all (map restore_type (map bare_annotation xs)))) (map nodes_of_annotation xs) (seq_parts (annotation.Tuple n) (ret (annotation.Tuple n)) [] xs (all (map restore_type (map bare_annotation xs))) (map nodes_of_annotation xs) (ret_parts (annotation.Tuple n)) (all_parts restore_type bare_annotation nodes_of_annotation xs h)))
+    (ap restore_type (shape.annotation_Tuple n xs) ∙ restore_Tuple (bare n) (map bare_annotation xs)) (q.annotation_Tuple before_parts n xs) (good_headed n (annotation.Tuple n xs) (λ n. seq (ret (annotation.Tuple n)) (all (map restore_type (map bare_annotation xs)))) (map nodes_of_annotation xs) (seq_parts (annotation.Tuple n) (ret (annotation.Tuple n)) [] xs (all (map restore_type (map bare_annotation xs))) (map nodes_of_annotation xs) (ret_parts (annotation.Tuple n)) (all_parts restore_type bare_annotation nodes_of_annotation xs h)))
 
 abbrev TypePart : Type 0
 TypePart = (x : Annotation) × GoodType x

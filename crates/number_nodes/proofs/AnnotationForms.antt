@@ -7,7 +7,7 @@ use Rattle.source_trees.specs.Nodes.{before_parts}
 use Rattle.source_trees.specs.Bare.{bare_annotation}
 use Rattle.source_trees.proofs.Equations as parts
 use Rattle.number_nodes.specs.Numbers.{NumbersNode, NumbersAnnotation, NumbersAnnotations}
-use Rattle.number_nodes.proofs.BareForms as bare
+use Rattle.source_trees.proofs.BareForms as bare
 use Rattle.number_nodes.proofs.Taking.{takes, numbers_by, takes_none, takes_node, takes_same, takes_last}
 
 pub annotation_Int : {whole : Annotation} {n m : Node} {first next : ℕ}

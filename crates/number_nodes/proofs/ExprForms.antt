@@ -15,7 +15,7 @@ use Rattle.source_trees.specs.Nodes.{before_parts, nodes_of_expr}
 use Rattle.source_trees.specs.Bare.{bare_expr, bare_optional}
 use Rattle.source_trees.proofs.Equations as parts
 use Rattle.number_nodes.specs.Numbers.{NumbersNode, NumbersName, NumbersLoopNames, NumbersExpr, NumbersExprs, NumbersOptionalExpr, NumbersComparison, NumbersComparisons}
-use Rattle.number_nodes.proofs.BareForms as bare
+use Rattle.source_trees.proofs.BareForms as bare
 use Rattle.number_nodes.proofs.Taking.{takes, numbers_by, takes_none, takes_node, takes_both, takes_same, takes_last, takes_parts, takes_option}
 
 pub expr_Name : {whole : Expr} {n m : Node} {spelling : List ℕ} {first next : ℕ}

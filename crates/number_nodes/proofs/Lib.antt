@@ -1,14 +1,9 @@
 pub mod Taking
 pub mod Reaching
 pub mod Parts
-pub mod BareForms
 pub mod AnnotationForms
 pub mod ExprForms
 pub mod TargetForms
 pub mod PipelineForms
 pub mod StatementForms
 pub mod ItemForms
-pub mod ExprHeights
-pub mod AnnotationHeights
-pub mod StatementHeights
-pub mod ModuleHeights

@@ -21,7 +21,7 @@ use Rattle.source_trees.specs.Nodes.{joined, before_parts, nodes_of_expr, nodes_
 use Rattle.source_trees.specs.Bare.{bare_stmt}
 use Rattle.source_trees.proofs.Equations as parts
 use Rattle.number_nodes.specs.Numbers.{NumbersNode, NumbersName, NumbersLoopNames, NumbersExpr, NumbersOptionalExpr, NumbersAnnotation, NumbersTarget, NumbersTargets, NumbersPrinted, NumbersStages, NumbersStmt, NumbersStmts, NumbersArm, NumbersArms, NumbersFor}
-use Rattle.number_nodes.proofs.BareForms as bare
+use Rattle.source_trees.proofs.BareForms as bare
 use Rattle.number_nodes.proofs.Taking.{takes, numbers_by, takes_none, takes_node, takes_both, takes_same, takes_last, takes_parts, takes_arms}
 
 pub stmt_Pass : {whole : Stmt} {n m : Node} {first next : ℕ}

@@ -1,6 +1,5 @@
 ghost use Rattle.std.specs.Prelude.{◌≡◌, IfOk};
 ghost use Rattle.source_trees.specs.Bare.{bare_module};
-ghost use Rattle.source_trees.specs.Heights.{height_of};
 ghost use Rattle.source_trees.specs.Nodes.{IsNumbered};
 ghost use Rattle.number_nodes.specs.Numbers.{NumbersClass, NumbersFunction, NumbersItem, NumbersItems, NumbersMember, NumbersMembers, NumbersParam, NumbersParams};
 
@@ -151,8 +150,6 @@ pub fn number_nodes(alloc: Global, source: Module) -> Result<Module, Memory>
     ensures bare { IfOk result (λ numbered. bare_module numbered ≡ bare_module source) }
     // Its nodes have the numbers 0, 1, 2 and so on.
     ensures numbered { IfOk result IsNumbered }
-    // So it is as high as before.
-    ensures height { IfOk result (λ numbered. height_of numbered ≡ height_of source) }
 {
     let Module { items } = source;
     let mut next = 0;

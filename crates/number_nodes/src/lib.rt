@@ -5,7 +5,6 @@ mod annotation;
 mod both;
 mod expression;
 mod item;
-mod law;
 mod node;
 mod pipeline;
 mod statement;
@@ -13,4 +12,3 @@ mod target;
 mod turned;
 
 pub use item::number_nodes;
-pub use law::height_stays;

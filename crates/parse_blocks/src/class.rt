@@ -102,7 +102,7 @@ fn field(alloc: Global, cursor: &mut Cursor<'_>, room: u32) -> Result<Member, Pa
 }
 
 /// Takes a text with its place.
-fn take_text(alloc: Global, cursor: &mut Cursor<'_>) -> Result<(Node, Text), ParseError>
+fn take_text(cursor: &mut Cursor<'_>) -> Result<(Node, Text), ParseError>
     ensures { Reads (take_by text_at cursor.old) result cursor.new }
 {
     let Some(first) = cursor.first() else {
@@ -118,10 +118,10 @@ fn take_text(alloc: Global, cursor: &mut Cursor<'_>) -> Result<(Node, Text), Par
 
 /// A text on a line of its own.
 #[tactic(auto, unfolding(crate::specs::Code::text_member))]
-fn text_member(alloc: Global, cursor: &mut Cursor<'_>) -> Result<Member, ParseError>
+fn text_member(cursor: &mut Cursor<'_>) -> Result<Member, ParseError>
     ensures { Reads (text_member cursor.old) result cursor.new }
 {
-    let (node, value) = take_text(alloc, cursor)?;
+    let (node, value) = take_text(cursor)?;
     expect_newline(cursor)?;
     Ok(Member::Text(node, value))
 }
@@ -143,7 +143,7 @@ fn read_member(alloc: Global, cursor: &mut Cursor<'_>, room: u32) -> Result<Memb
         return field(alloc, cursor, room);
     }
     if cursor.sees_text() {
-        return text_member(alloc, cursor);
+        return text_member(cursor);
     }
     if cursor.sees_keyword(b"pass".as_slice()) {
         return pass_member(cursor);

@@ -18,7 +18,7 @@ fn negative_number(by: UnaryOp, operand: &Expr) -> Option<Value>
 }
 
 /// The value of a default.
-fn constant(alloc: Global, e: &Expr) -> Result<Option<Value>, Memory>
+fn constant(e: &Expr) -> Result<Option<Value>, Memory>
     ensures { IfOk result (λ v. v ≡ spec.constant (out-Expr e.now)) }
 {
     Ok(match e {
@@ -32,11 +32,11 @@ fn constant(alloc: Global, e: &Expr) -> Result<Option<Value>, Memory>
     })
 }
 
-fn default_of(alloc: Global, param: &Param) -> Result<Option<Value>, Memory>
+fn default_of(param: &Param) -> Result<Option<Value>, Memory>
     ensures { IfOk result (λ v. v ≡ spec.default_of param.now param.now.default) }
 {
     match &param.default {
-        Some(e) => constant(alloc, e),
+        Some(e) => constant(e),
         None => Ok(None),
     }
 }
@@ -51,11 +51,7 @@ fn after(params: &[Param], count: usize) -> &[Param]
 
 /// The values of the parameters: those that are given, and then defaults. There are none where too many are given, or a value is missing.
 #[inline(never)]
-pub(crate) fn arguments(
-    alloc: Global,
-    params: &[Param],
-    given: Values,
-) -> Result<Option<Values>, Memory>
+pub(crate) fn arguments(params: &[Param], given: Values) -> Result<Option<Values>, Memory>
     ensures { IfOk result (λ all. all ≡ spec.arguments params.now given) }
 {
     if given.len() > params.len() {
@@ -64,7 +60,7 @@ pub(crate) fn arguments(
     let rest = after(params, given.len());
     let mut all = given;
     'params: for param in rest {
-        match default_of(alloc, param)? {
+        match default_of(param)? {
             Some(v) => all.push(v)?,
             None => return Ok(None),
         }

@@ -64,7 +64,7 @@ impl<
         if called.known.yields {
             return Err(wrong(self.alloc));
         }
-        match arguments(self.alloc, called.known.function.params.as_slice(), given)? {
+        match arguments(called.known.function.params.as_slice(), given)? {
             Some(given) => self.enter(state, called, given.as_slice()),
             None => Err(wrong(self.alloc)),
         }

@@ -1,3 +1,4 @@
 pub mod Equations
 pub mod Highest
 pub mod HeightForms
+pub mod BareForms
