@@ -24,6 +24,8 @@ import os
 import re
 import sys
 
+from tables import exit_by_ast
+
 HERE = os.path.dirname(os.path.abspath(__file__))
 EXAMPLES = os.path.join(HERE, "../examples")
 TABLE = os.path.join(HERE, "../crates/codon_front/src/tests/examples.rt")
@@ -164,7 +166,4 @@ def main():
 
 
 if __name__ == "__main__":
-    if not hasattr(ast, "unparse"):
-        print("skipped: this python3 has no ast of version 3.9 or later")
-        sys.exit(0)
-    sys.exit(main())
+    exit_by_ast(main)

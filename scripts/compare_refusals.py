@@ -16,6 +16,8 @@ import os
 import re
 import sys
 
+from tables import compare
+
 KEYWORDS = set(
     "False None True and as assert async await break class continue def del elif else except finally for from "
     "global if import in is lambda nonlocal not or pass raise return try while with yield".split()
@@ -430,22 +432,18 @@ def rows(path):
             yield number, text if text.endswith("\n") else text + "\n", height, want
 
 
+def found(text, height):
+    """The answer of the recogniser to a source of a table, or why the source has no tokens."""
+    try:
+        return answer(text, height)
+    except NoTokens as error:
+        return "no tokens: %s" % error
+
+
 def main():
     here = os.path.join(os.path.dirname(os.path.abspath(__file__)), "../crates/tree_parser/src/tests/")
     paths = sys.argv[1:] or sorted(glob.glob(here + "refusals/*.rt")) + [here + name for name in ("edited.rt", "limits/room.rt", "sources.rt")]
-    compared = wrong = 0
-    for path in paths:
-        for number, text, height, want in rows(path):
-            compared += 1
-            try:
-                found = answer(text, height)
-            except NoTokens as error:
-                found = "no tokens: %s" % error
-            if found != want:
-                wrong += 1
-                print("%s:%d: %r: the table has %s, the recogniser %s" % (path, number, text, want, found))
-    print("%d answers compared, %d differ" % (compared, wrong))
-    return 1 if wrong else 0
+    return compare("answers", (("%s:%d: %r" % (path, number, text), want, found(text, height)) for path in paths for number, text, height, want in rows(path)))
 
 
 if __name__ == "__main__":

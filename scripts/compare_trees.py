@@ -13,6 +13,8 @@ import glob
 import os
 import sys
 
+from tables import compare, exit_by_ast
+
 BINARY = {
     "Add": "+", "Sub": "-", "Mult": "*", "FloorDiv": "//", "Mod": "%", "Pow": "**", "LShift": "<<", "RShift": ">>",
     "BitAnd": "&", "BitOr": "|", "BitXor": "^",
@@ -191,6 +193,14 @@ def rows(path):
             held = None
 
 
+def found(source):
+    """The tree that CPython gives a source of a table, or why it gives none."""
+    try:
+        return shape(source.replace("⏎", "\n") + "\n")
+    except (SyntaxError, ValueError) as error:
+        return "no tree: %s" % error
+
+
 def main():
     if sys.argv[1:2] == ["--print"]:
         for path in sys.argv[2:]:
@@ -201,23 +211,8 @@ def main():
         return 0
     here = os.path.dirname(os.path.abspath(__file__))
     paths = sys.argv[1:] or sorted(glob.glob(os.path.join(here, "../crates/tree_parser/src/tests/trees/*.rt")))
-    compared = wrong = 0
-    for path in paths:
-        for number, source, tree in rows(path):
-            compared += 1
-            try:
-                found = shape(source.replace("⏎", "\n") + "\n")
-            except (SyntaxError, ValueError) as error:
-                found = "no tree: %s" % error
-            if found != tree:
-                wrong += 1
-                print("%s:%d: %s\n  table %s\n  ast   %s" % (path, number, source, tree, found))
-    print("%d trees compared, %d differ" % (compared, wrong))
-    return 1 if wrong else 0
+    return compare("trees", (("%s:%d: %s" % (path, number, source), tree, found(source)) for path in paths for number, source, tree in rows(path)))
 
 
 if __name__ == "__main__":
-    if not hasattr(ast, "unparse"):
-        print("skipped: this python3 has no ast of version 3.9 or later")
-        sys.exit(0)
-    sys.exit(main())
+    exit_by_ast(main)
