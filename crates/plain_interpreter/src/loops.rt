@@ -71,8 +71,7 @@ impl<
         requires { Nests self.now.program.now self.now.limit self.now.depth (F.pre self.now.low) (F.post self.now.low) }
         ensures { TellsFlow (generated (here self.now.program.now self.now.limit self.now.depth) (consumers_of consumers.now) (consumer_of consumer.entry) (known_of called.entry) given (seen state.old)) result state.new }
     {
-        let Some(given) = arguments(called.known.function.params.as_slice(), given)?
-        else {
+        let Some(given) = arguments(called.known.function.params.as_slice(), given)? else {
             return Err(wrong(self.alloc));
         };
         self.generate_by(state, consumers, consumer, called, given.as_slice())
