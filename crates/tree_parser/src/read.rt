@@ -13,7 +13,6 @@ use std::alloc::Global;
 /// The tree of a list of tokens, by the full grammar specification of the Python reference as far as this language has it, and the pipelines and parallel loops of Codon. Its nodes have the numbers 0, 1, 2 and so on in preorder, and each stands at its first character. A statement, function or class at the top has a height of 100 at most.
 ///
 /// Where there is no such tree, the answer is the first token that no source goes on with: `token` is its place in the list from 0, `at` that of its first character. A token after the first `End` is such a token. `Memory` comes only where memory is wanted.
-#[tactic(auto, using(crate::proofs::Parsed::numbered_is_tree))]
 pub fn parse(alloc: Global, tokens: &Tokens) -> Result<Module, Or<ParseRefusal>>
     requires holds_end { HoldsEnd tokens.now }
     requires few { length tokens.now < 2 ^ 30 }
